@@ -1,0 +1,12 @@
+pub mod Sets
+pub mod Words
+pub mod Columns
+pub mod Assignments
+pub mod Best
+pub mod Pins
+pub mod Load
+pub mod Packed
+pub mod Sides
+pub mod Pairs
+pub mod Crossings
+pub mod Spans

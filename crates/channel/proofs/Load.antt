@@ -1,0 +1,163 @@
+-- The load lemma: the density of a word's columns is the greatest load of the word's occupied columns.
+-- Assumes nothing.
+use Prim.Native.Nat.{ℕ, suc, _+_, _≤_, max}
+use mathlib.Core.Path.{_≡_, refl, sym, ap, ap₂, _∙_, fun-ext}
+use mathlib.Core.List.{List, [], _∷_, _++_, append-assoc}
+use mathlib.Core.Bool.{Bool, true, false, not, cond, _&&_, _||_, and-false, or-false, false≢true}
+use native.Mathlib.Nat.{le-refl, le-trans, le-max-right, zero-max}
+use native.Mathlib.Numerals.{add-one}
+use native.Mathlib.Omega.{arith}
+use lib.ListN.{length, take, drop, length-map, take-append-drop}
+use lib.Seq.{drop-drop, drop-length}
+use lib.Dec.{leb, eqb}
+use borrow.Author.Tests.{le-leb, lt-leb, eq-eqb, ne-eqb}
+use Rattle.channel.specs.Sheet.{Terminal, Sheet}
+use Rattle.channel.specs.Density.{pins, crosses, weight, weightOf, netsOf, columnDensity, maximumTo, density}
+use Rattle.channel.specs.Word.{Letter, hasTop, hasBottom, columnsOf}
+use Rattle.channel.specs.Word.Letter.{empty, top, bottom, both}
+use Rattle.channel.specs.Cut.{count, nets, has, leftOf, hereOf, rightOf, leftNets, hereNets, rightNets, crossesCut, load, occupied, firstLoad, wordLoad}
+use Rattle.channel.proofs.Pins.{Test, word-cut, any-swap}
+
+-- the three tests of a crossing: at or left of column c, at or right of it, not in it
+at-or-left : (c : ℕ) → Test (λ (k : ℕ). leb k c) c true true false
+at-or-left c = record { left = λ k h. le-leb k c (omega arith); here = le-leb c c (le-refl c); right = λ k h. lt-leb k c h }
+
+at-or-right : (c : ℕ) → Test (λ (k : ℕ). leb c k) c false true true
+at-or-right c = record { left = λ k h. lt-leb c k h; here = le-leb c c (le-refl c); right = λ k h. le-leb c k (omega arith) }
+
+outside : (c : ℕ) → Test (λ (k : ℕ). not (eqb k c)) c true false true
+outside c =
+    record {
+      left = λ k h. ap not (ne-eqb k c (λ e. omega arith));
+      here = ap not (eq-eqb c c refl);
+      right = λ k h. ap not (ne-eqb k c (λ e. omega arith));
+    }
+
+-- of the word v ++ (a ∷ u), whose letter a stands in column suc (length u)
+module _ (s : Sheet) (v : List Letter) (a : Letter) (u : List Letter)
+    (tops : count hasTop (v ++ a ∷ u) ≡ length (s .top))
+    (bottoms : count hasBottom (v ++ a ∷ u) ≡ length (s .bottom)) where
+  -- which nets cross a letter's column
+  crosses-cut : (n : ℕ)
+      → let i : ℕ = count hasTop (a ∷ u) in
+      let j : ℕ = count hasBottom (a ∷ u) in
+      crosses (pins (s .top ++ s .bottom) (columnsOf (v ++ a ∷ u))) n (suc (length u))
+      ≡ crossesCut n (leftNets s a i j) (hereNets s a i j) (rightNets s i j)
+  unfolding crosses
+  crosses-cut n =
+      let c : ℕ = suc (length u) in
+      rw (
+        word-cut (λ (k : ℕ). leb k c) true true false s v a u (at-or-left c) tops bottoms n,
+        word-cut (λ (k : ℕ). leb c k) false true true s v a u (at-or-right c) tops bottoms n,
+        word-cut (λ (k : ℕ). not (eqb k c)) true false true s v a u (outside c) tops bottoms n,
+        or-false,
+      )
+
+  -- the density of a letter's column is its load
+  pub column-load : columnDensity s (columnsOf (v ++ a ∷ u)) (suc (length u)) ≡ firstLoad s a u
+  unfolding columnDensity load
+  column-load = ap (λ (f : ℕ → Bool). weightOf f (netsOf s)) (fun-ext crosses-cut)
+
+-- a test that holds of more nets weighs no less
+weight-mono : (f g : ℕ → Bool) → ((n : ℕ) → f n ≡ true → g n ≡ true) → (ns : List ℕ) → weightOf f ns ≤ weightOf g ns
+weight-mono f g h [] = le-refl 0
+weight-mono f g h (n ∷ ns) = go (f n) (g n) (weight n) (h n) (weight-mono f g h ns)
+  where
+    go : (x y : Bool) (p : ℕ) {a b : ℕ} → (x ≡ true → y ≡ true) → a ≤ b → cond x p 0 + a ≤ cond y p 0 + b
+    go true true p e k = omega arith
+    go true false p e k = absurd (false≢true (e refl))
+    go false y p e k = omega arith
+
+-- one side at the next column, with a pin in it if h: left of it stands what was at or left of the column before
+next-left : (h : Bool) (i : ℕ) (ns : List ℕ) → leftOf h (cond h (suc i) i) ns ≡ take i ns
+next-left true i ns = refl
+next-left false i ns = refl
+
+-- in it and right of it stands what was right of the column before
+next-right : (h : Bool) (i : ℕ) (ns : List ℕ) → hereOf h (cond h (suc i) i) ns ++ rightOf (cond h (suc i) i) ns ≡ drop i ns
+next-right true i ns = rw (drop-drop 1 i ns, add-one) at (take-append-drop 1 (drop i ns))
+next-right false i ns = refl
+
+-- an empty column's load is at most that of the next column to its right: what crosses it has a pin left of it and one right of it
+pub empty-load : (s : Sheet) (a : Letter) (i j : ℕ) → load s empty i j ≤ load s a (cond (hasTop a) (suc i) i) (cond (hasBottom a) (suc j) j)
+unfolding load
+empty-load s a i j = weight-mono _ _ crossing (netsOf s)
+  where
+    x : ℕ
+    x = cond (hasTop a) (suc i) i
+
+    y : ℕ
+    y = cond (hasBottom a) (suc j) j
+
+    left : leftNets s a x y ≡ leftNets s empty i j
+    left = rw (next-left (hasTop a) i (nets (s .top)), next-left (hasBottom a) j (nets (s .bottom)))
+
+    right : (n : ℕ) → has n (rightNets s i j) ≡ (has n (hereNets s a x y) || has n (rightNets s x y))
+    right n =
+        rw (← next-right (hasTop a) i (nets (s .top)), ← next-right (hasBottom a) j (nets (s .bottom)))
+        (rw any-swap)
+
+    cross : (l h r : Bool) → ((l || false) && ((h || r) && (l || (h || r)))) ≡ true → ((l || h) && ((h || r) && (l || r))) ≡ true
+    cross true h r e = e
+    cross false h r e = absurd (false≢true e)
+
+    crossing : (n : ℕ)
+        → crossesCut n (leftNets s empty i j) (hereNets s empty i j) (rightNets s i j) ≡ true
+        → crossesCut n (leftNets s a x y) (hereNets s a x y) (rightNets s x y) ≡ true
+    crossing n e = rw left (cross (has n (leftNets s empty i j)) (has n (hereNets s a x y)) (has n (rightNets s x y)) (rw (right n) at e))
+
+-- where every pin stands at or left of an empty column, nothing crosses it
+pub last-load : (s : Sheet) → load s empty (length (s .top)) (length (s .bottom)) ≡ 0
+unfolding load
+last-load s = none _ (λ n. rw (right (s .top), right (s .bottom), and-false)) (netsOf s)
+  where
+    none : (f : ℕ → Bool) → ((n : ℕ) → f n ≡ false) → (ns : List ℕ) → weightOf f ns ≡ 0
+    none f e [] = refl
+    none f e (n ∷ ns) = rw (e n, none f e ns)
+
+    right : (ts : List Terminal) → drop (length ts) (nets ts) ≡ []
+    right ts = rw (length-map ts (λ (t : Terminal). t .net)) at (drop-length (nets ts))
+
+-- the greatest load of a word's columns, the empty ones too
+columnsLoad : Sheet → List Letter → ℕ
+columnsLoad s [] = 0
+columnsLoad s (a ∷ w) = max (firstLoad s a w) (columnsLoad s w)
+
+-- an empty column adds nothing to m, where m is at least its load
+first-kept : (s : Sheet) (a : Letter) (w : List Letter) (m : ℕ) → load s empty (count hasTop (a ∷ w)) (count hasBottom (a ∷ w)) ≤ m
+    → max m (firstLoad s a w) ≡ max m (cond (occupied a) (firstLoad s a w) 0)
+first-kept s empty w m h = omega arith
+first-kept s top w m h = refl
+first-kept s bottom w m h = refl
+first-kept s both w m h = refl
+
+-- the greatest of three
+max-assoc : (a b c : ℕ) → max (max a b) c ≡ max a (max b c)
+max-assoc a b c = omega arith
+
+-- a word's empty columns add nothing to m, where m is at least the load of an empty column just right of the word
+only-occupied : (s : Sheet) (w : List Letter) (m : ℕ) → load s empty (count hasTop w) (count hasBottom w) ≤ m → max m (columnsLoad s w) ≡ max m (wordLoad s w)
+unfolding columnsLoad
+only-occupied s [] m h = refl
+only-occupied s (a ∷ w) m h =
+    let new : load s empty (count hasTop w) (count hasBottom w) ≤ max m (firstLoad s a w) = le-trans (empty-load s a (count hasTop w) (count hasBottom w)) (le-max-right m (firstLoad s a w)) in
+    simp (← max-assoc) (rw (only-occupied s w (max m (firstLoad s a w)) new, first-kept s a w m h))
+
+-- the columns of the letters u of a word v ++ u
+columns-load : (s : Sheet) (v u : List Letter) → count hasTop (v ++ u) ≡ length (s .top) → count hasBottom (v ++ u) ≡ length (s .bottom)
+    → maximumTo (length u) (columnDensity s (columnsOf (v ++ u))) ≡ columnsLoad s u
+unfolding columnsLoad
+columns-load s v [] h k = refl
+columns-load s v (a ∷ u) h k =
+    ap₂ max (column-load s v a u h k) (rw append-assoc at (columns-load s (v ++ (a ∷ [])) u (rw append-assoc h) (rw append-assoc k)))
+
+-- the load lemma: for every word with a pin for each terminal, the density of its columns is its load
+pub density-load : (s : Sheet) (w : List Letter)
+    → length w ≡ s .columns
+    → count hasTop w ≡ length (s .top)
+    → count hasBottom w ≡ length (s .bottom)
+    → density s (columnsOf w) ≡ wordLoad s w
+unfolding density
+density-load s w l h k =
+    let e : load s empty (count hasTop w) (count hasBottom w) ≤ 0 = rw (h, k, last-load s) (le-refl 0) in
+    ap (λ (c : ℕ). maximumTo c (columnDensity s (columnsOf w))) (sym l) ∙ columns-load s [] w h k ∙ (simp zero-max at (only-occupied s w 0 e))

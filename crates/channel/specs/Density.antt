@@ -1,0 +1,61 @@
+-- How many nets cross a column, and the density of a column list (document 01, "Column, crossing, density"; document 003, section 4.1).
+-- Assumes nothing.
+use Prim.Native.Nat.{ℕ, zero, suc, _+_, max}
+use mathlib.Core.List.{List, [], _∷_, _++_, map}
+use mathlib.Core.Bool.{Bool, true, false, not, cond, _&&_, _||_}
+use lib.Dec.{leb, eqb}
+use Rattle.channel.specs.Sheet.{Terminal, Sheet}
+
+abbrev pub any {ℓ} : {A : Type ℓ} → (A → Bool) → List A → Bool
+any f [] = false
+any f (x ∷ xs) = f x || any f xs
+
+-- a terminal that stands in a column
+pub record Pin : Type 0 where
+  pub net : ℕ
+  pub column : ℕ
+
+abbrev pub pins : List Terminal → List ℕ → List Pin
+pins [] cs = []
+pins (t ∷ ts) [] = []
+pins (t ∷ ts) (c ∷ cs) = record { net = t .net; column = c } ∷ pins ts cs
+
+-- some pin of net n stands in a column of which f holds
+abbrev pub somePin : (ℕ → Bool) → ℕ → List Pin → Bool
+somePin f n = any (λ (p : Pin). eqb (p .net) n && f (p .column))
+
+-- "A net crosses column c when its leftmost pin is at or left of c, its rightmost at or right of c, and some pin is not in c":
+-- some pin at or left of c, some pin at or right of c, some pin outside c
+unfoldable pub crosses : List Pin → ℕ → ℕ → Bool
+crosses ps n c =
+    somePin (λ (k : ℕ). leb k c) n ps
+    && (somePin (λ (k : ℕ). leb c k) n ps && somePin (λ (k : ℕ). not (eqb k c)) n ps)
+
+abbrev pub distinct : List ℕ → List ℕ
+distinct [] = []
+distinct (n ∷ ns) = cond (any (eqb n) ns) (distinct ns) (n ∷ distinct ns)
+
+-- a sheet's nets, each once
+unfoldable pub netsOf : Sheet → List ℕ
+netsOf s = distinct (map (λ (t : Terminal). t .net) (s .top ++ s .bottom))
+
+-- the tracks that a net takes in a column that it crosses
+abbrev pub weight : ℕ → ℕ
+weight n = 1
+
+-- the weights of those nets of a list of which f holds
+abbrev pub weightOf : (ℕ → Bool) → List ℕ → ℕ
+weightOf f [] = 0
+weightOf f (n ∷ ns) = cond (f n) (weight n) 0 + weightOf f ns
+
+-- "Each net counts once in a column, however many pins it has"
+unfoldable pub columnDensity : Sheet → List ℕ → ℕ → ℕ
+columnDensity s cs c = weightOf (λ (n : ℕ). crosses (pins (s .top ++ s .bottom) cs) n c) (netsOf s)
+
+abbrev pub maximumTo : ℕ → (ℕ → ℕ) → ℕ
+maximumTo zero f = 0
+maximumTo (suc k) f = max (f (suc k)) (maximumTo k f)
+
+-- "Density is the maximum over columns 1 to L, and 0 with no terminals"
+unfoldable pub density : Sheet → List ℕ → ℕ
+density s cs = maximumTo (s .columns) (columnDensity s cs)

@@ -1,0 +1,38 @@
+-- How far a net reaches, and a column's density as a loop over the terminals counts it (document 01, "Column, crossing, density").
+-- Assumes nothing.
+use Prim.Native.Nat.{ℕ, _+_, _≤_, min, max}
+use mathlib.Core.List.{List, [], _∷_}
+use mathlib.Core.Bool.{Bool, cond, _&&_}
+use lib.Dec.{leb, ltb, eqb}
+use Rattle.channel.specs.Density.{any, Pin, weight}
+
+-- the columns of net n's pins, in their order
+abbrev pub netColumns : ℕ → List Pin → List ℕ
+netColumns n [] = []
+netColumns n (p ∷ ps) = cond (eqb (p .net) n) (p .column ∷ netColumns n ps) (netColumns n ps)
+
+-- one end of net n, as a loop over the pins finds it: at each pin of n, pick one of the column so far and the pin's
+abbrev pub endFrom : (ℕ → ℕ → ℕ) → ℕ → ℕ → List Pin → ℕ
+endFrom pick start n [] = start
+endFrom pick start n (p ∷ ps) = endFrom pick (cond (eqb (p .net) n) (pick start (p .column)) start) n ps
+
+-- the columns of net n's leftmost and rightmost pins, where no column is above 255
+unfoldable pub leftmost : ℕ → List Pin → ℕ
+leftmost n ps = endFrom min 255 n ps
+
+unfoldable pub rightmost : ℕ → List Pin → ℕ
+rightmost n ps = endFrom max 0 n ps
+
+-- no column of a list is above b
+abbrev pub Below : ℕ → List ℕ → Type 0
+Below b [] = Unit {0}
+Below b (c ∷ cs) = (c ≤ b) × Below b cs
+
+-- a net from column l to column r crosses column c
+abbrev pub spans : ℕ → ℕ → ℕ → Bool
+spans l r c = ltb l r && (leb l c && leb c r)
+
+-- the weights of those nets of a list of which f holds, each counted where it occurs last
+abbrev pub sumLast : (ℕ → Bool) → List ℕ → ℕ
+sumLast f [] = 0
+sumLast f (n ∷ ns) = cond (any (eqb n) ns) 0 (cond (f n) (weight n) 0) + sumLast f ns

@@ -1,0 +1,58 @@
+-- `sheet::Cursor::step` meets its contract: the shape says on which side the next terminal stands, or that there is none.
+-- Assumes nothing.
+use mathlib.Core.Path.{_∙_}
+use Rattle.sheet.specs.Read.{read}
+use Rattle.sheet.specs.Parts.{shapeOf, entryAt}
+use Rattle.sheet.specs.Walk.{stepOf}
+use Rattle.sheet.proofs.Visits.{step-top, step-bottom, step-end}
+use borrow.Author.Needs.{needs}
+use Rattle.sheet.proofs.Cursor.step.Statement.{statement}
+use Rattle.sheet.proofs.Cursor.step.Tie as tie
+
+shape-of-requires : tie.Need-shape-of-requires
+shape-of-requires c κs = search needs
+
+returns : tie.Need-returns
+unfolding shapeOf stepOf
+returns c = let a = c .before .before .before .before .args in step-end (a .self .passed) (read (a .s .now)) (rw (c .before .before .shape-of .ensures) at (c .if1 .taken))
+
+add-t8 : tie.Need-add-t8
+add-t8 c = search needs
+
+add-visit : tie.Need-add-visit
+add-visit c = search needs
+
+visit-requires : tie.Need-visit-requires
+visit-requires c κs = search needs
+
+add-visit-2 : tie.Need-add-visit-2
+add-visit-2 c = search needs
+
+visit-requires-2 : tie.Need-visit-requires-2
+visit-requires-2 c κs = search needs
+
+returns-2 : tie.Need-returns-2
+unfolding shapeOf stepOf entryAt
+returns-2 c = let a = c .before .before .before .before .before .before .args in c .visit .ensures ∙ step-top (a .self .passed) (read (a .s .now)) (rw (c .before .before .before .before .shape-of .ensures) at (c .before .if2 .taken))
+
+returns-3 : tie.Need-returns-3
+unfolding shapeOf stepOf entryAt
+returns-3 c =
+    let a = c .before .before .before .before .before .before .args in
+    let e = c .before .before .before .before .shape-of .ensures in
+    c .visit2 .ensures
+    ∙ rw e (step-bottom (a .self .passed) (read (a .s .now)) (rw e at (c .before .if2 .left)) (rw e at (c .before .before .if1 .left)))
+
+pub step-spec : {M : Type 1} → statement M
+step-spec =
+    tie.close
+    (tie.spec
+    shape-of-requires
+    returns
+    add-t8
+    add-visit
+    visit-requires
+    add-visit-2
+    visit-requires-2
+    returns-2
+    returns-3)

@@ -1,0 +1,5 @@
+pub mod Fields
+pub mod Checks
+pub mod Sections
+pub mod Sounds
+pub mod Visits

@@ -1,0 +1,40 @@
+-- `sheet::check_form` meets its contract: at each return the tests that led there decide `formOf`.
+-- Assumes nothing.
+use mathlib.Core.Path.{_∙_, sym}
+use borrow.Author.Tests.{lt-ltb, le-ltb}
+use Rattle.sheet.specs.Check.{formOf}
+use borrow.Author.Needs.{needs}
+use Rattle.sheet.proofs.soundness.check_form.Statement.{statement}
+use Rattle.sheet.proofs.soundness.check_form.Tie as tie
+
+returns : tie.Need-returns
+unfolding formOf
+returns c = simp (lt-ltb _ _ (c .if1 .taken))
+
+has-mark-requires : tie.Need-has-mark-requires
+has-mark-requires c κs = search needs
+
+read-trailer-requires : tie.Need-read-trailer-requires
+read-trailer-requires c κs = search needs
+
+check-trailer-requires : tie.Need-check-trailer-requires
+check-trailer-requires c κs = search needs
+
+returns-2 : tie.Need-returns-2
+unfolding formOf
+returns-2 c = simp (le-ltb _ _ (c .before .before .before .before .before .if1 .left), sym (c .before .before .before .has-mark .ensures) ∙ c .before .before .if2 .taken, ← c .before .read-trailer .ensures) (c .check-trailer .ensures)
+
+returns-3 : tie.Need-returns-3
+unfolding formOf
+returns-3 c = simp (le-ltb _ _ (c .before .before .before .if1 .left), sym (c .before .has-mark .ensures) ∙ c .if2 .left)
+
+pub check-form-spec : {M : Type 1} → statement M
+check-form-spec =
+    tie.close
+    (tie.spec
+    returns
+    has-mark-requires
+    read-trailer-requires
+    check-trailer-requires
+    returns-2
+    returns-3)

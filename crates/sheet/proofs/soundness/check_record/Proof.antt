@@ -1,0 +1,35 @@
+-- `sheet::check_record` meets its contract: at each return the tests that led there decide `terminalCheck`.
+-- Assumes nothing.
+use mathlib.Core.Path.{_∙_, sym}
+use borrow.Author.Tests.{eq-eqb, ne-eqb}
+use Rattle.sheet.specs.Check.{terminalCheck}
+use borrow.Author.Needs.{needs}
+use Rattle.sheet.proofs.soundness.check_record.Statement.{statement}
+use Rattle.sheet.proofs.soundness.check_record.Tie as tie
+
+returns : tie.Need-returns
+unfolding terminalCheck
+returns c = simp (eq-eqb _ _ (c .if1 .taken))
+
+keeps-rule-requires : tie.Need-keeps-rule-requires
+keeps-rule-requires c κs = search needs
+
+names-above-requires : tie.Need-names-above-requires
+names-above-requires c κs = search needs
+
+returns-2 : tie.Need-returns-2
+unfolding terminalCheck
+returns-2 c = simp (ne-eqb _ _ (c .before .before .before .before .if1 .left), sym (c .before .before .before .keeps-rule .ensures) ∙ c .before .before .if2 .taken, sym (c .before .names-above .ensures) ∙ c .if3 .taken)
+
+returns-3 : tie.Need-returns-3
+unfolding terminalCheck
+returns-3 c = simp (ne-eqb _ _ (c .before .before .before .before .if1 .left), sym (c .before .before .before .keeps-rule .ensures) ∙ c .before .before .if2 .taken, sym (c .before .names-above .ensures) ∙ c .if3 .left)
+
+returns-4 : tie.Need-returns-4
+unfolding terminalCheck
+returns-4 c = simp (ne-eqb _ _ (c .before .before .if1 .left), sym (c .before .keeps-rule .ensures) ∙ c .if2 .left)
+
+pub check-record-spec : {M : Type 1} → statement M
+check-record-spec =
+    tie.close
+    (tie.spec returns keeps-rule-requires names-above-requires returns-2 returns-3 returns-4)

@@ -1,0 +1,25 @@
+-- `sheet::visit` meets its contract: the answer of `record_at` picks the case.
+-- Assumes nothing.
+use mathlib.Core.Path.{_∙_, sym, ap}
+use Rattle.sheet.specs.Walk.{visitOf}
+use borrow.Author.Needs.{needs}
+use Rattle.sheet.proofs.walk.visit.Statement.{statement}
+use Rattle.sheet.proofs.walk.visit.Tie as tie
+
+record-at-requires : tie.Need-record-at-requires
+record-at-requires c κs = search needs
+
+enum-known-entry : tie.Need-enum-known-entry
+enum-known-entry c = search needs
+
+enum-told : tie.Need-enum-told
+enum-told c = search needs
+
+returns : tie.Need-returns
+returns c = let a = c .before .before .before .before .before .args in ap (visitOf (a .side) (a .place) (a .next)) (sym (c .before .entry .given .1) ∙ c .before .before .before .record-at .ensures)
+
+returns-2 : tie.Need-returns-2
+returns-2 c = let a = c .before .before .before .before .args in ap (visitOf (a .side) (a .place) (a .next)) (sym (c .enum-told .given .1) ∙ c .before .before .record-at .ensures)
+
+pub visit-spec : {M : Type 1} → statement M
+visit-spec = tie.close (tie.spec record-at-requires enum-known-entry enum-told returns returns-2)

@@ -1,0 +1,93 @@
+-- The parts of a sheet's bytes: its shape, one side's section, one terminal's record (document 01, "The sheet").
+-- Assumes nothing.
+use Prim.Native.Nat.{ℕ, zero, suc, _+_, _*_, _/_}
+use mathlib.Core.List.{List, [], _∷_}
+use lib.ListN.{length, take, drop}
+use Rattle.channel.specs.Sheet.{Terminal, Sheet, terminals}
+use Rattle.channel.specs.Sheet as channel
+use Rattle.sheet.specs.declared.Checked.{Checked}
+use Rattle.sheet.specs.declared.Checked.the-variants.{Sound, Refused}
+use Rattle.sheet.specs.declared.Entry.{Entry}
+use Rattle.sheet.specs.declared.Entry.the-variants.{Terminal as Found, Nothing}
+use Rattle.sheet.specs.declared.Shape.{Shape}
+use Rattle.sheet.specs.declared.Side.{Side}
+use Rattle.sheet.specs.declared.Side.the-variants.{Top, Bottom}
+use Rattle.sheet.specs.declared.parts.IfSound.{IfSound}
+use Rattle.sheet.specs.declared.parts.IfSound.the-variants.{Trailer as Open, Refused as Closed}
+use Rattle.sheet.specs.declared.format.Part.{Part}
+use Rattle.sheet.specs.Format.{recordSize, recordOf, terminalsFrom, trailerOf, partOf}
+use Rattle.sheet.specs.Check.{checkOf}
+use Rattle.sheet.specs.Read.{Read, read}
+use Rattle.sheet.specs.Read.Read.{sound, refused}
+
+-- the trailer of a sound sheet
+abbrev pub trailerIf : List ℕ → Checked → IfSound
+trailerIf b Sound = Open (trailerOf b)
+trailerIf b (Refused why) = Closed
+
+unfoldable pub soundTrailer : List ℕ → IfSound
+soundTrailer b = trailerIf b (checkOf b)
+
+-- "a column buffer of at least p+q bytes, and a work buffer of at least (p+1)(q+1)(L+1)² 16-bit cells"
+abbrev pub cellsOf : ℕ → ℕ → ℕ → ℕ
+cellsOf l p q = (p + 1) * (q + 1) * ((l + 1) * (l + 1))
+
+abbrev pub shape : ℕ → ℕ → ℕ → Shape
+shape l p q =
+    record {
+      columns = l;
+      top = p;
+      bottom = q;
+      cells = cellsOf l p q;
+      pins = p + q;
+    }
+
+abbrev pub noShape : Shape
+noShape = record { columns = 0; top = 0; bottom = 0; cells = 0; pins = 0 }
+
+abbrev pub shapeAs : Read → Shape
+shapeAs (sound s) = shape (s .columns) (length (s .top)) (length (s .bottom))
+shapeAs (refused n) = noShape
+
+unfoldable pub shapeOf : List ℕ → Shape
+shapeOf b = shapeAs (read b)
+
+-- "that section of its own sheet. A refused sheet gives the empty part; so does a side with no terminals"
+abbrev pub bytesOf : List ℕ → Part → List ℕ
+bytesOf b part = take (recordSize * part .count) (drop (part .at) b)
+
+abbrev pub sectionAs : List ℕ → Side → IfSound → List ℕ
+sectionAs b side (Open t) = bytesOf b (partOf t side)
+sectionAs b side Closed = []
+
+unfoldable pub sectionOf : List ℕ → Side → List ℕ
+sectionOf b side = sectionAs b side (soundTrailer b)
+
+-- the record at a place, from 1
+abbrev pub nth : List Terminal → ℕ → Entry
+nth [] k = Nothing
+nth (t ∷ ts) zero = Found (recordOf t)
+nth (t ∷ ts) (suc k) = nth ts k
+
+abbrev pub entryOf : List Terminal → ℕ → Entry
+entryOf ts zero = Nothing
+entryOf ts (suc k) = nth ts k
+
+-- of a section's bytes
+abbrev pub terminalsIn : List ℕ → List Terminal
+terminalsIn part = terminalsFrom part 0 (length part / recordSize)
+
+unfoldable pub entryIn : List ℕ → ℕ → Entry
+entryIn part place = entryOf (terminalsIn part) place
+
+-- of a sheet
+abbrev pub sideOf : Side → channel.Side
+sideOf Top = channel.Side.top
+sideOf Bottom = channel.Side.bottom
+
+abbrev pub entryAs : Side → ℕ → Read → Entry
+entryAs side place (sound s) = entryOf (terminals s (sideOf side)) place
+entryAs side place (refused n) = Nothing
+
+unfoldable pub entryAt : List ℕ → Side → ℕ → Entry
+entryAt b side place = entryAs side place (read b)

@@ -1,0 +1,96 @@
+// Where the fields of the bytes stand: numbers, records and the trailer.
+use crate::Record;
+use crate::Side;
+ghost use mathlib.Core.Path.{_≡_};
+ghost use mathlib.Core.Bool.{_&&_};
+ghost use Prim.Native.Nat.{_+_, _*_, _^_, _≤_, _<_};
+ghost use lib.ListN.{length};
+ghost use Rattle.sheet.specs.Format.{little, hasMark, recordOf, terminalAt, trailerOf, partOf};
+
+pub const RECORD: usize = 12;
+
+pub const TRAILER: usize = 12;
+
+// One side's section as the trailer has it: its offset and its number of terminals.
+pub struct Part {
+    pub at: usize,
+    pub count: usize,
+}
+
+pub struct Trailer {
+    pub top: Part,
+    pub bottom: Part,
+    pub columns: usize,
+}
+
+// The little-endian number in the n bytes from `at` on.
+pub fn read_number(s: &[u8], at: usize, n: usize) -> u64
+    requires { ⌜ (at + n ≤ length (now s)) × (n ≤ 8) ⌝ }
+    ensures { λ r. ⌜ (r ≡ little n (now (s .entry)) at) × (r < 2 ^ (8 * n)) ⌝ }
+{
+    let mut value: u64 = 0;
+    let mut left = n;
+    while 0 < left {
+        left -= 1;
+        value = value * 256 + s[at + left] as u64;
+    }
+    value
+}
+
+// Whether the last two bytes are the mark.
+pub fn has_mark(s: &[u8], mark: &[u8; 2]) -> bool
+    requires { ⌜ 2 ≤ length (now s) ⌝ }
+    ensures { λ r. ⌜ r ≡ hasMark (now (s .entry)) (now (mark .entry)) ⌝ }
+{
+    let n = s.len();
+    s[n - 2] == mark[0] && s[n - 1] == mark[1]
+}
+
+// The record that starts at `at`.
+pub fn read_record(s: &[u8], at: usize) -> Record
+    requires { ⌜ at + 12 ≤ length (now s) ⌝ }
+    ensures { λ r. ⌜ r ≡ recordOf (terminalAt (now (s .entry)) at) ⌝ }
+{
+    let net = read_number(s, at, 2) as u16;
+    let least = s[at + 2];
+    let greatest = s[at + 3];
+    let allowed = read_number(s, at + 4, 8);
+    Record {
+        net,
+        least,
+        greatest,
+        allowed,
+    }
+}
+
+// The trailer's numbers, from its 12 bytes at the end.
+pub fn read_trailer(s: &[u8]) -> Trailer
+    requires { ⌜ 12 ≤ length (now s) ⌝ }
+    ensures { λ r. ⌜ r ≡ trailerOf (now (s .entry)) ⌝ }
+{
+    let at = s.len() - TRAILER;
+    let top = Part {
+        at: read_number(s, at, 2) as usize,
+        count: read_number(s, at + 2, 2) as usize,
+    };
+    let bottom = Part {
+        at: read_number(s, at + 4, 2) as usize,
+        count: read_number(s, at + 6, 2) as usize,
+    };
+    let columns = read_number(s, at + 8, 2) as usize;
+    Trailer {
+        top,
+        bottom,
+        columns,
+    }
+}
+
+// The part of one side.
+pub fn part_of(t: Trailer, side: Side) -> Part
+    ensures { λ r. ⌜ r ≡ partOf t side ⌝ }
+{
+    match side {
+        Side::Top => t.top,
+        Side::Bottom => t.bottom,
+    }
+}
