@@ -49,7 +49,7 @@ checked-sound b h =
     record {
       columns = w .form .columns;
       counts =
-        (rw length-terminals (w .form .count Top), rw length-terminals (w .form .count Bottom));
+          (rw length-terminals (w .form .count Top), rw length-terminals (w .form .count Bottom));
       top = side-sound l true (terminalsOf b (trailerOf b .top)) (w .side Top);
       bottom = side-sound l true (terminalsOf b (trailerOf b .bottom)) (w .side Bottom);
     }
