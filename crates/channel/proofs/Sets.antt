@@ -40,7 +40,7 @@ names-above-quotient l set = by-test (leb (2 ^ l) set) refl
     by-test false e = rw (div-eq-of-lt (leb-false _ _ e)) (sym e)
 
 -- a number that is not 0 has a bit
-bit-of : (m : ℕ) → 0 < m → (k : ℕ) × (m / 2 ^ k % 2 ≡ 1)
+pub bit-of : (m : ℕ) → 0 < m → (k : ℕ) × (m / 2 ^ k % 2 ≡ 1)
 bit-of = bin-ind (λ (m : ℕ). 0 < m → (k : ℕ) × (m / 2 ^ k % 2 ≡ 1)) (λ h. absurd (omega arith)) step
   where
     step : (m : ℕ) → (0 < m / 2 → (k : ℕ) × (m / 2 / 2 ^ k % 2 ≡ 1)) → 0 < m → (k : ℕ) × (m / 2 ^ k % 2 ≡ 1)

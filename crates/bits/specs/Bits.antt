@@ -1,0 +1,18 @@
+-- Words as sets of numbers below 64.
+-- Assumes nothing.
+use Prim.Native.Nat.{ℕ, zero, suc, _-_, _/_, _%_, _^_}
+use mathlib.Core.Bool.{Bool, false, _&&_, _||_}
+use lib.Dec.{eqb}
+
+-- the number k is in the set w
+unfoldable pub bitOf : ℕ → ℕ → Bool
+bitOf w k = eqb (w / 2 ^ k % 2) 1
+
+-- f holds of some number below n
+abbrev pub some : ℕ → (ℕ → Bool) → Bool
+some zero f = false
+some (suc n) f = f n || some n f
+
+-- k is reached from a number of w by a step of `by`
+unfoldable pub stepped : ℕ → ℕ → ℕ → Bool
+stepped w by k = some (suc k) (λ (y : ℕ). bitOf by (k - y) && bitOf w y)

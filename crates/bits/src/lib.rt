@@ -1,0 +1,105 @@
+// Sets of numbers below 64 as words, and words in 16-bit cells.
+ghost use Prim.Native.Nat.{ℕ, _+_, _-_, _^_, _≤_, _<_, min};
+ghost use mathlib.Core.Path.{_≡_};
+ghost use mathlib.Core.Bool.{_&&_, _||_};
+ghost use lib.Dec.{leb, ltb, eqb};
+ghost use lib.ListN.{length};
+ghost use Rattle.bits.specs.Bits.{bitOf, stepped};
+ghost use Rattle.bits.specs.Cells.{wordAt, putWord};
+
+// Whether k is in the set.
+pub fn bit(w: u64, k: usize) -> bool
+    ensures { λ r. ⌜ r ≡ bitOf w k ⌝ }
+{
+    if 64 <= k {
+        return false;
+    }
+    (w >> k) % 2 == 1
+}
+
+// The set of k alone.
+pub fn single(k: usize) -> u64
+    requires { ⌜ k < 64 ⌝ }
+    ensures { λ r. ⌜ ((n : ℕ) → n < 64 → bitOf r n ≡ eqb n k) ⌝ }
+{
+    1u64 << k
+}
+
+// The numbers below k.
+pub fn below(k: usize) -> u64
+    ensures { λ r. ⌜ ((n : ℕ) → n < 64 → bitOf r n ≡ ltb n k) ⌝ }
+{
+    if k == 0 {
+        return 0;
+    }
+    if 64 <= k {
+        return 18446744073709551615;
+    }
+    18446744073709551615u64 >> (64 - k)
+}
+
+// The numbers from k on.
+pub fn from(k: usize) -> u64
+    ensures { λ r. ⌜ ((n : ℕ) → n < 64 → bitOf r n ≡ leb k n) ⌝ }
+{
+    if 64 <= k {
+        return 0;
+    }
+    (18446744073709551615u64 >> k) << k
+}
+
+// What both sets hold, and what either does.
+pub fn both(a: u64, b: u64) -> u64
+    ensures { λ r. ⌜ ((n : ℕ) → bitOf r n ≡ (bitOf a n && bitOf b n)) ⌝ }
+{
+    a & b
+}
+
+pub fn either(a: u64, b: u64) -> u64
+    ensures { λ r. ⌜ ((n : ℕ) → bitOf r n ≡ (bitOf a n || bitOf b n)) ⌝ }
+{
+    a | b
+}
+
+// The numbers that are reached from a number of w by a step of `by`.
+pub fn steps(w: u64, by: u64) -> u64
+    ensures { λ r. ⌜ ((n : ℕ) → n < 64 → bitOf r n ≡ stepped w by n) ⌝ }
+{
+    let mut moved = w;
+    let mut left = by;
+    let mut found: u64 = 0;
+    while left != 0 {
+        if left % 2 == 1 {
+            found = found | moved;
+        }
+        moved = moved << 1;
+        left = left / 2;
+    }
+    found
+}
+
+// The word in the four cells from `at` on.
+pub fn read_word(cells: &[u16], at: usize) -> u64
+    requires { ⌜ at + 4 ≤ length (now cells) ⌝ }
+    ensures { λ r. ⌜ r ≡ wordAt (now (cells .entry)) at ⌝ }
+{
+    let a = cells[at] as u64;
+    let b = cells[at + 1] as u64;
+    let c = cells[at + 2] as u64;
+    let d = cells[at + 3] as u64;
+    a + 65536 * (b + 65536 * (c + 65536 * d))
+}
+
+// Puts a word into the four cells from `at` on.
+pub fn write_word(cells: &mut [u16], at: usize, w: u64)
+    requires { ⌜ at + 4 ≤ length (now cells) ⌝ }
+    ensures { λ _. ⌜ now (cells .exit) ≡ putWord (now (cells .entry)) at w ⌝ }
+{
+    let b = w / 65536;
+    let c = b / 65536;
+    let d = c / 65536;
+    cells[at] = (w % 65536) as u16;
+    cells[at + 1] = (b % 65536) as u16;
+    cells[at + 2] = (c % 65536) as u16;
+    cells[at + 3] = (d % 65536) as u16;
+}

@@ -1,0 +1,106 @@
+-- `table::bottom` meets its contract: at each return the tests that led there decide, and the numbers found are those of the contract.
+-- Assumes nothing.
+use Prim.Native.Nat.{ℕ, _-_}
+use mathlib.Core.Path.{_∙_, sym, ap, ap₂}
+use mathlib.Core.Bool.{Bool, _&&_}
+use native.Mathlib.Omega.{arith}
+use Rattle.bits.specs.Bits.{bitOf, stepped}
+use Rattle.bits.proofs.Laws.{bit-zero}
+use Rattle.table.specs.Entry.{held}
+use Rattle.table.proofs.Parts.{no-bottom, bottom-heavy, bottom-found, all-behind, from-behind, and-true}
+use borrow.Author.Needs.{needs}
+use Rattle.table.proofs.entry.bottom.Statement.{statement}
+use Rattle.table.proofs.entry.bottom.Tie as tie
+
+returns : tie.Need-returns
+returns c = λ y h. bit-zero y ∙ no-bottom (c .before .before .before .before .args .rules .now) (c .before .before .before .before .args .loads .now) (c .before .before .before .before .args .bound) (c .before .before .before .before .args .place .i) (c .before .before .before .before .args .place .j) (c .before .before .before .before .args .place .x) y (held (c .before .before .before .before .args .work .now) (c .before .before .before .before .args .place .at - c .before .before .before .before .args .grid .size)) (c .if1 .taken)
+
+within-requires : tie.Need-within-requires
+within-requires c κs = search needs
+
+sub-read-word : tie.Need-sub-read-word
+sub-read-word c = c .before .before .before .before .before .before .before .before .pre .1 .before (omega (arith, c .before .before .before .before .if1 .left))
+
+mul-read-word : tie.Need-mul-read-word
+mul-read-word c = search needs
+
+add-read-word : tie.Need-add-read-word
+add-read-word c = search needs
+
+read-word-requires : tie.Need-read-word-requires
+read-word-requires c κs = search needs
+
+range-requires : tie.Need-range-requires
+range-requires c κs = search needs
+
+steps-requires : tie.Need-steps-requires
+steps-requires c κs = search needs
+
+allowed-requires : tie.Need-allowed-requires
+allowed-requires c κs = search needs
+
+both-requires : tie.Need-both-requires
+both-requires c κs = search needs
+
+add-if3 : tie.Need-add-if3
+add-if3 c = search needs
+
+returns-2 : tie.Need-returns-2
+unfolding stepped
+returns-2 c = λ y h.
+    c .before .both .ensures y
+    ∙ sym (and-true _)
+    ∙ bottom-found (c .before .before .before .before .before .before .before .before .before .before .before .before .before .before .args .rules .now) (c .before .before .before .before .before .before .before .before .before .before .before .before .before .before .args .loads .now) (c .before .before .before .before .before .before .before .before .before .before .before .before .before .before .args .bound) (c .before .before .before .before .before .before .before .before .before .before .before .before .before .before .args .place .i) (c .before .before .before .before .before .before .before .before .before .before .before .before .before .before .args .place .j) (c .before .before .before .before .before .before .before .before .before .before .before .before .before .before .args .place .x) y (held (c .before .before .before .before .before .before .before .before .before .before .before .before .before .before .args .work .now) (c .before .before .before .before .before .before .before .before .before .before .before .before .before .before .args .place .at - c .before .before .before .before .before .before .before .before .before .before .before .before .before .before .args .grid .size)) _ _ _ (c .before .before .before .before .before .before .before .before .before .before .if1 .left) (sym (c .before .before .before .before .before .before .before .before .before .within .ensures) ∙ c .before .before .before .before .before .before .before .before .if2 .taken)
+    (c .before .before .before .steps .ensures y h ∙ ap₂ (λ (v w : ℕ). stepped v w y) (c .before .before .before .before .before .read-word .ensures) (c .before .before .before .before .range .ensures))
+    (ap (λ (w : ℕ). bitOf w y) (c .before .before .allowed .ensures)) (all-behind (c .before .before .before .before .before .before .before .before .before .before .before .before .before .before .args .rules .now) (c .before .before .before .before .before .before .before .before .before .before .before .before .before .before .args .loads .now) (c .before .before .before .before .before .before .before .before .before .before .before .before .before .before .args .bound) (c .before .before .before .before .before .before .before .before .before .before .before .before .before .before .args .place .i) (c .before .before .before .before .before .before .before .before .before .before .before .before .before .before .args .place .j) (c .before .before .before .before .before .before .before .before .before .before .before .before .before .before .args .place .x) y (held (c .before .before .before .before .before .before .before .before .before .before .before .before .before .before .args .work .now) (c .before .before .before .before .before .before .before .before .before .before .before .before .before .before .args .place .at - c .before .before .before .before .before .before .before .before .before .before .before .before .before .before .args .grid .size)) (c .if3 .taken))
+
+add-from : tie.Need-add-from
+add-from c = search needs
+
+sub-from : tie.Need-sub-from
+sub-from c = search needs
+
+add-from-2 : tie.Need-add-from-2
+add-from-2 c = search needs
+
+from-requires : tie.Need-from-requires
+from-requires c κs = search needs
+
+both-requires-2 : tie.Need-both-requires-2
+both-requires-2 c κs = search needs
+
+returns-3 : tie.Need-returns-3
+unfolding stepped
+returns-3 c = λ y h.
+    c .both2 .ensures y
+    ∙ ap (λ (t : Bool). t && bitOf (c .before .from .result) y) (c .before .before .before .both .ensures y)
+    ∙ bottom-found (c .before .before .before .before .before .before .before .before .before .before .before .before .before .before .before .before .args .rules .now) (c .before .before .before .before .before .before .before .before .before .before .before .before .before .before .before .before .args .loads .now) (c .before .before .before .before .before .before .before .before .before .before .before .before .before .before .before .before .args .bound) (c .before .before .before .before .before .before .before .before .before .before .before .before .before .before .before .before .args .place .i) (c .before .before .before .before .before .before .before .before .before .before .before .before .before .before .before .before .args .place .j) (c .before .before .before .before .before .before .before .before .before .before .before .before .before .before .before .before .args .place .x) y (held (c .before .before .before .before .before .before .before .before .before .before .before .before .before .before .before .before .args .work .now) (c .before .before .before .before .before .before .before .before .before .before .before .before .before .before .before .before .args .place .at - c .before .before .before .before .before .before .before .before .before .before .before .before .before .before .before .before .args .grid .size)) _ _ _ (c .before .before .before .before .before .before .before .before .before .before .before .before .if1 .left) (sym (c .before .before .before .before .before .before .before .before .before .before .before .within .ensures) ∙ c .before .before .before .before .before .before .before .before .before .before .if2 .taken)
+    (c .before .before .before .before .before .steps .ensures y h ∙ ap₂ (λ (v w : ℕ). stepped v w y) (c .before .before .before .before .before .before .before .read-word .ensures) (c .before .before .before .before .before .before .range .ensures))
+    (ap (λ (w : ℕ). bitOf w y) (c .before .before .before .before .allowed .ensures)) (c .before .from .ensures y h ∙ from-behind (c .before .before .before .before .before .before .before .before .before .before .before .before .before .before .before .before .args .rules .now) (c .before .before .before .before .before .before .before .before .before .before .before .before .before .before .before .before .args .loads .now) (c .before .before .before .before .before .before .before .before .before .before .before .before .before .before .before .before .args .bound) (c .before .before .before .before .before .before .before .before .before .before .before .before .before .before .before .before .args .place .i) (c .before .before .before .before .before .before .before .before .before .before .before .before .before .before .before .before .args .place .j) (c .before .before .before .before .before .before .before .before .before .before .before .before .before .before .before .before .args .place .x) y (held (c .before .before .before .before .before .before .before .before .before .before .before .before .before .before .before .before .args .work .now) (c .before .before .before .before .before .before .before .before .before .before .before .before .before .before .before .before .args .place .at - c .before .before .before .before .before .before .before .before .before .before .before .before .before .before .before .before .args .grid .size)) (c .before .before .if3 .left))
+
+returns-4 : tie.Need-returns-4
+returns-4 c = λ y h. bit-zero y ∙ bottom-heavy (c .before .before .before .before .before .before .args .rules .now) (c .before .before .before .before .before .before .args .loads .now) (c .before .before .before .before .before .before .args .bound) (c .before .before .before .before .before .before .args .place .i) (c .before .before .before .before .before .before .args .place .j) (c .before .before .before .before .before .before .args .place .x) y (held (c .before .before .before .before .before .before .args .work .now) (c .before .before .before .before .before .before .args .place .at - c .before .before .before .before .before .before .args .grid .size)) (sym (c .before .within .ensures) ∙ c .if2 .left)
+
+pub bottom-spec : {M : Type 1} → statement M
+bottom-spec =
+    tie.close
+    (tie.spec
+    returns
+    within-requires
+    sub-read-word
+    mul-read-word
+    add-read-word
+    read-word-requires
+    range-requires
+    steps-requires
+    allowed-requires
+    both-requires
+    add-if3
+    returns-2
+    add-from
+    sub-from
+    add-from-2
+    from-requires
+    both-requires-2
+    returns-3
+    returns-4)

@@ -1,0 +1,96 @@
+-- `table::meets` meets its contract. The loop's invariant: none of the rows passed meets. The measure is how many are left.
+-- Assumes nothing.
+use Prim.Native.Nat.{ℕ, suc, _≤_, _-_, _+_}
+use mathlib.Core.Path.{_≡_, _∙_, sym, ap}
+use mathlib.Core.Bool.{false, _&&_}
+use mathlib.Core.Logic.{⊎-elim}
+use native.Mathlib.Omega.{arith}
+use borrow.Author.Needs.{needs}
+use lib.Dec.{leb}
+use Rattle.bits.specs.Bits.{bitOf, some}
+use Rattle.table.specs.Entry.{held}
+use Rattle.table.specs.Room.{meeting}
+use Rattle.table.proofs.Unions.{none-before, row-misses, row-skipped, row-meets, none-meets}
+use Rattle.table.proofs.query.meets.Statement.{statement}
+use Rattle.table.proofs.query.meets.Tie as tie
+
+abbrev Inv-loop : tie.InvT-loop
+Inv-loop work base low high next by mask x₀ x =
+    (low ≤ x) × (x ≤ high + 1) × (some x (λ (m : ℕ). leb low m && (bitOf by (next - m) && some 64 (λ (y : ℕ). held work base m y && bitOf mask y))) ≡ false)
+
+abbrev μ-loop : tie.MeasureT-loop
+μ-loop work base low high next by mask x₀ x = high + 1 - x
+
+loop-holds : tie.Need-loop-holds Inv-loop μ-loop
+loop-holds c = (omega arith, omega arith, none-before (c .before .args .low) (λ (m : ℕ). bitOf (c .before .args .by) (c .before .args .next - m)) (λ (m y : ℕ). held (c .before .args .work .now) (c .before .args .base) m y && bitOf (c .before .args .mask) y))
+
+sub-bit : tie.Need-sub-bit Inv-loop μ-loop
+sub-bit c = omega arith
+
+bit-requires : tie.Need-bit-requires Inv-loop μ-loop
+bit-requires c κs = search needs
+
+mul-read-word : tie.Need-mul-read-word Inv-loop μ-loop
+mul-read-word c = omega arith
+
+add-read-word : tie.Need-add-read-word Inv-loop μ-loop
+add-read-word c = omega arith
+
+read-word-requires : tie.Need-read-word-requires Inv-loop μ-loop
+read-word-requires c κs = omega arith
+
+both-requires : tie.Need-both-requires Inv-loop μ-loop
+both-requires c κs = search needs
+
+returns : tie.Need-returns Inv-loop μ-loop
+unfolding meeting
+returns c =
+    let a = c .before .before .before .before .before .before .before .before .args in
+    let l = c .before .before .before .before .before .before .loop in
+    row-meets (a .low) (a .high) (l .x) (λ (m : ℕ). bitOf (a .by) (a .next - m)) (λ (m y : ℕ). held (a .work .now) (a .base) m y && bitOf (a .mask) y) (l .inv .0) (c .before .before .before .before .before .loop-test .taken) (sym (c .before .before .before .before .bit .ensures) ∙ c .before .before .before .if1 .taken)
+    (c .before .both .result) (omega (arith, c .before .both .ok)) (c .if2 .taken) (λ y. c .before .both .ensures y ∙ ap (λ (w : ℕ). bitOf w y && bitOf (a .mask) y) (c .before .before .read-word .ensures))
+
+add-x : tie.Need-add-x Inv-loop μ-loop
+add-x c = omega arith
+
+loop-less : tie.Need-loop-less Inv-loop μ-loop
+loop-less c = omega arith
+
+loop-again : tie.Need-loop-again Inv-loop μ-loop
+loop-again c =
+    let a = c .before .before .before .before .before .args in
+    let l = c .before .before .before .loop in (
+      omega arith,
+      omega arith,
+      ⊎-elim
+          (λ w. row-misses (a .low) (l .x) (λ (m : ℕ). bitOf (a .by) (a .next - m)) (λ (m y : ℕ). held (a .work .now) (a .base) m y && bitOf (a .mask) y) (w .2 .result) (w .3 .left) (λ y. w .2 .ensures y ∙ ap (λ (v : ℕ). bitOf v y && bitOf (a .mask) y) (w .1 .ensures)) (l .inv .2))
+          (λ w. row-skipped (a .low) (l .x) (λ (m : ℕ). bitOf (a .by) (a .next - m)) (λ (m y : ℕ). held (a .work .now) (a .base) m y && bitOf (a .mask) y) (sym (c .before .bit .ensures) ∙ w .left) (l .inv .2))
+          (c .if1 .came),
+    )
+
+returns-2 : tie.Need-returns-2 Inv-loop μ-loop
+unfolding meeting
+returns-2 c =
+    let a = c .before .before .before .args in
+    let l = c .before .loop in
+    let end : l .x ≡ suc (a .high) = omega arith in
+    none-meets (λ (m : ℕ). leb (a .low) m && (bitOf (a .by) (a .next - m) && some 64 (λ (y : ℕ). held (a .work .now) (a .base) m y && bitOf (a .mask) y))) (l .x) (suc (a .high)) end (l .inv .2)
+
+pub meets-spec : {M : Type 1} → statement M
+meets-spec =
+    tie.close
+    (tie.spec
+    Inv-loop
+    μ-loop
+    loop-holds
+    sub-bit
+    bit-requires
+    mul-read-word
+    add-read-word
+    read-word-requires
+    both-requires
+    returns
+    add-x
+    loop-less
+    loop-again
+    returns-2)

@@ -1,0 +1,55 @@
+-- What a row of the table needs of the buffers, and what a filled table is.
+-- Assumes nothing.
+use Prim.Native.Nat.{ℕ, suc, _+_, _-_, _*_, _≤_, _<_}
+use mathlib.Core.Path.{_≡_}
+use mathlib.Core.List.{List}
+use mathlib.Core.Bool.{Bool, _&&_}
+use mathlib.Core.Logic.{_⊎_}
+use lib.ListN.{length, drop}
+use lib.Dec.{leb}
+use Rattle.bits.specs.Bits.{bitOf, some}
+use Rattle.table.specs.declared.Grid.{Grid}
+use Rattle.table.specs.declared.Place.{Place}
+use Rattle.table.specs.Entry.{held, cell}
+
+-- the two sides' rules, and the loads of every cut
+pub record Sides (r l : List ℕ) : Type 0 where
+  pub rules : length r ≡ 256
+  pub loads : length l ≡ 12675
+
+-- a plane has its rows, at most 64, in its cells
+pub record Measures (g : Grid) : Type 0 where
+  pub rows : (4 * g .rows ≤ g .size) × (g .rows ≤ 64)
+  pub across : (0 < g .across) × (g .across ≤ 65)
+  pub stride : g .stride ≡ g .across * g .size
+
+-- the row lies in the cells, and so do the same rows of the planes before it
+pub record Room (work : List ℕ) (g : Grid) (p : Place) : Type 0 where
+  pub i : p .i ≤ 64
+  pub j : p .j ≤ 64
+  pub x : (4 * p .x + 4 ≤ g .size) × (p .x < 64)
+  pub whole : p .at + g .size ≤ length work
+  pub above : 0 < p .i → g .stride ≤ p .at
+  pub before : 0 < p .j → g .size ≤ p .at
+  pub diagonal : 0 < p .i → 0 < p .j → g .stride + g .size ≤ p .at
+
+-- the cells of plane (i, j)
+abbrev pub baseOf : Grid → ℕ → ℕ → ℕ
+baseOf g i j = i * g .stride + j * g .size
+
+-- the planes before (i, j) hold the table
+abbrev pub Earlier : List ℕ → List ℕ → ℕ → Grid → ℕ → ℕ → List ℕ → Type 0
+Earlier rules loads bound g i j work =
+    (n m x y : ℕ) → (n < i) ⊎ ((n ≡ i) × (m < j)) → m < g .across → x < g .rows → y < 64
+    → held work (baseOf g n m) x y ≡ cell rules loads bound n m x y
+
+-- the planes before (i, j) hold the table, and what stands behind `end` is as it was
+pub record Filled (rules loads : List ℕ) (bound : ℕ) (g : Grid) (i j end : ℕ) (old new : List ℕ) : Type 0 where
+  pub kept : length new ≡ length old
+  pub behind : drop end new ≡ drop end old
+  pub cells : Earlier rules loads bound g i j new
+
+-- some row from low to high, whose step to next is in `by`, holds a number of the mask
+unfoldable pub meeting : List ℕ → ℕ → ℕ → ℕ → ℕ → ℕ → ℕ → Bool
+meeting work base low high next by mask =
+    some (suc high) (λ (x : ℕ). leb low x && (bitOf by (next - x) && some 64 (λ (y : ℕ). held work base x y && bitOf mask y)))
