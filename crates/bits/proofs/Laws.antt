@@ -12,7 +12,7 @@ use lib.Bits.{bitAnd, bitOr, and-mod, or-mod, and-shr, or-shr}
 use lib.Pow.{pow-pos, pow-mono, pow-add, shl-shr, shr-shr, field, mod-mod-pow, ones-split, ones-lt, high}
 use borrow.Author.Tests.{leb-true, leb-false, le-leb, ltb-true, ltb-false, eq-eqb, ne-eqb, eqb-true, eqb-false}
 use Rattle.channel.proofs.Sets.{bit-of}
-use Rattle.bits.specs.Bits.{bitOf, some, stepped}
+use Rattle.bits.specs.Bits.{bitOf, some, inWord, stepped}
 
 -- the last bit
 odd : ℕ → Bool
@@ -159,6 +159,24 @@ some-from (suc n) f k h e = by-test (λ l. some-from n f k l e) (eqb k n) refl
     by-test : (k < n → some n f ≡ true) → (b : Bool) → eqb k n ≡ b → (f n || some n f) ≡ true
     by-test rest true t = rw (ap f (sym (eqb-true k n t)) ∙ e)
     by-test rest false t = rw (rest (omega (arith, eqb-false k n t))) (or-true (f n))
+
+-- nothing below n
+pub some-none : (n : ℕ) (f : ℕ → Bool) → ((k : ℕ) → k < n → f k ≡ false) → some n f ≡ false
+some-none zero f h = refl
+some-none (suc n) f h = rw (h n (omega arith)) (some-none n f (λ k l. h k (omega arith)))
+
+-- the same laws of the numbers of a word
+pub word-none : (f : ℕ → Bool) → ((k : ℕ) → k < 64 → f k ≡ false) → inWord f ≡ false
+unfolding inWord
+word-none f h = some-none 64 f h
+
+pub word-from : (f : ℕ → Bool) (k : ℕ) → k < 64 → f k ≡ true → inWord f ≡ true
+unfolding inWord
+word-from f k h e = some-from 64 f k h e
+
+pub word-cong : (f g : ℕ → Bool) → ((k : ℕ) → k < 64 → f k ≡ g k) → inWord f ≡ inWord g
+unfolding inWord
+word-cong f g h = some-cong 64 f g h
 
 -- one number more, where the first of two tests holds of it, and where it does not
 module _ (n : ℕ) (a b : ℕ → Bool) where

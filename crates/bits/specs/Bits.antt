@@ -13,6 +13,10 @@ abbrev pub some : ℕ → (ℕ → Bool) → Bool
 some zero f = false
 some (suc n) f = f n || some n f
 
+-- f holds of some number that a word can hold
+unfoldable pub inWord : (ℕ → Bool) → Bool
+inWord f = some 64 f
+
 -- k is reached from a number of w by a step of `by`
 unfoldable pub stepped : ℕ → ℕ → ℕ → Bool
 stepped w by k = some (suc k) (λ (y : ℕ). bitOf by (k - y) && bitOf w y)

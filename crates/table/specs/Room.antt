@@ -7,7 +7,7 @@ use mathlib.Core.Bool.{Bool, _&&_}
 use mathlib.Core.Logic.{_⊎_}
 use lib.ListN.{length, drop}
 use lib.Dec.{leb}
-use Rattle.bits.specs.Bits.{bitOf, some}
+use Rattle.bits.specs.Bits.{bitOf, some, inWord}
 use Rattle.table.specs.declared.Grid.{Grid}
 use Rattle.table.specs.declared.Place.{Place}
 use Rattle.table.specs.Entry.{held, cell}
@@ -52,4 +52,4 @@ pub record Filled (rules loads : List ℕ) (bound : ℕ) (g : Grid) (i j end : �
 -- some row from low to high, whose step to next is in `by`, holds a number of the mask
 unfoldable pub meeting : List ℕ → ℕ → ℕ → ℕ → ℕ → ℕ → ℕ → Bool
 meeting work base low high next by mask =
-    some (suc high) (λ (x : ℕ). leb low x && (bitOf by (next - x) && some 64 (λ (y : ℕ). held work base x y && bitOf mask y)))
+    some (suc high) (λ (x : ℕ). leb low x && (bitOf by (next - x) && inWord (λ (y : ℕ). held work base x y && bitOf mask y)))

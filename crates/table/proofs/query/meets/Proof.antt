@@ -7,7 +7,7 @@ use mathlib.Core.Logic.{⊎-elim}
 use native.Mathlib.Omega.{arith}
 use borrow.Author.Needs.{needs}
 use lib.Dec.{leb}
-use Rattle.bits.specs.Bits.{bitOf, some}
+use Rattle.bits.specs.Bits.{bitOf, some, inWord}
 use Rattle.table.specs.Entry.{held}
 use Rattle.table.specs.Room.{meeting}
 use Rattle.table.proofs.Unions.{none-before, row-misses, row-skipped, row-meets, none-meets}
@@ -16,7 +16,7 @@ use Rattle.table.proofs.query.meets.Tie as tie
 
 abbrev Inv-loop : tie.InvT-loop
 Inv-loop work base low high next by mask x₀ x =
-    (low ≤ x) × (x ≤ high + 1) × (some x (λ (m : ℕ). leb low m && (bitOf by (next - m) && some 64 (λ (y : ℕ). held work base m y && bitOf mask y))) ≡ false)
+    (low ≤ x) × (x ≤ high + 1) × (some x (λ (m : ℕ). leb low m && (bitOf by (next - m) && inWord (λ (y : ℕ). held work base m y && bitOf mask y))) ≡ false)
 
 abbrev μ-loop : tie.MeasureT-loop
 μ-loop work base low high next by mask x₀ x = high + 1 - x
@@ -74,7 +74,7 @@ returns-2 c =
     let a = c .before .before .before .args in
     let l = c .before .loop in
     let end : l .x ≡ suc (a .high) = omega arith in
-    none-meets (λ (m : ℕ). leb (a .low) m && (bitOf (a .by) (a .next - m) && some 64 (λ (y : ℕ). held (a .work .now) (a .base) m y && bitOf (a .mask) y))) (l .x) (suc (a .high)) end (l .inv .2)
+    none-meets (λ (m : ℕ). leb (a .low) m && (bitOf (a .by) (a .next - m) && inWord (λ (y : ℕ). held (a .work .now) (a .base) m y && bitOf (a .mask) y))) (l .x) (suc (a .high)) end (l .inv .2)
 
 pub meets-spec : {M : Type 1} → statement M
 meets-spec =

@@ -1,0 +1,162 @@
+-- A measurement, from what the sheet layer, the two tests and the counting answer.
+-- Assumes nothing.
+use Prim.Native.Nat.{ℕ, suc, _+_, _-_, _≤_}
+use mathlib.Core.Path.{_≡_, refl, sym, _∙_, ap}
+use mathlib.Core.List.{List, [], _∷_, _++_}
+use mathlib.Core.Bool.{Bool, true, false, not, _&&_}
+use native.Mathlib.Omega.{arith}
+use lib.ListN.{length, getD, take, drop, length-drop}
+use lib.Seq.{take-all}
+use borrow.Author.Tests.{eq-eqb, ne-eqb, not-true, not-false}
+use Rattle.channel.specs.Sheet.{Terminal, Sheet, terminals}
+use Rattle.channel.specs.Assignment.{topColumns, bottomColumns}
+use Rattle.channel.specs.Density.{Pin, pins, maximumTo, density}
+use Rattle.channel.specs.Cut.{nets}
+use Rattle.channel.specs.Spans.{Below, sumLast}
+use Rattle.channel.proofs.Spans.{density-spans}
+use Rattle.sheet.specs.declared.Checked.{Checked}
+use Rattle.sheet.specs.declared.Checked.the-variants.{Sound, Refused}
+use Rattle.sheet.specs.declared.Refusal.{Refusal}
+use Rattle.sheet.specs.declared.Shape.{Shape}
+use Rattle.sheet.specs.declared.Side.{Side}
+use Rattle.sheet.specs.declared.Side.the-variants.{Top, Bottom}
+use Rattle.sheet.specs.Check.{checkOf}
+use Rattle.sheet.specs.Read.{readAs, sheetOf, read}
+use Rattle.sheet.specs.Read.Read.{sound}
+use Rattle.sheet.specs.Parts.{shapeAs, shapeOf, sectionOf, terminalsIn, sideOf}
+use Rattle.sheet.proofs.Sections.{section-terminals}
+use Rattle.sheet.proofs.Sounds.{read-sound}
+use Rattle.measure.specs.declared.Measured.{Measured}
+use Rattle.measure.specs.declared.Measured.the-variants.{Density, Sheet as Unsound, Count, Allowed, Distance}
+use Rattle.measure.specs.Answer.{sideAllowed, allAllowed, sideKept, distancesKept, unless, listMeasured, sheetMeasured, measuredOf}
+use Rattle.measure.specs.Inner.{sheetWith, Laid, pinsOf, netSpans, countedAt}
+
+-- the pins of terminals are those of their nets
+pins-nets : (ts : List Terminal) (cs : List ℕ) → pins ts cs ≡ pinsOf (nets ts) cs
+pins-nets [] cs = refl
+pins-nets (t ∷ ts) [] = refl
+pins-nets (t ∷ ts) (c ∷ cs) = ap (λ (ps : List Pin). record { net = t .net; column = c } ∷ ps) (pins-nets ts cs)
+
+-- a list of bytes has no column above 255
+pub bytes-below : (cs : List ℕ) → ((i : ℕ) → getD cs i 0 ≤ 255) → Below 255 cs
+bytes-below [] h = tt
+bytes-below (c ∷ cs) h = (h 0, bytes-below cs (λ i. h (suc i)))
+
+-- the density is the greatest of the counts
+pub density-counted :
+    (l : ℕ) (ts us : List Terminal) (cs : List ℕ) → Below 255 cs
+    → density (sheetWith l ts us) cs ≡ maximumTo l (countedAt (nets (ts ++ us)) cs)
+unfolding countedAt
+density-counted l ts us cs h =
+    density-spans (sheetWith l ts us) cs h
+    ∙ ap (λ (ps : List Pin). maximumTo l (λ (c : ℕ). sumLast (netSpans ps c) (nets (ts ++ us)))) (pins-nets (ts ++ us) cs)
+
+-- the columns of a list on each side, as parts of the list
+abbrev topPart : List ℕ → ℕ → List ℕ
+topPart cs p = take p cs
+
+abbrev bottomPart : List ℕ → ℕ → List ℕ
+bottomPart cs p = take (length cs - p) (drop p cs)
+
+-- 14 of both
+abbrev bothKept : List Terminal → List Terminal → List ℕ → ℕ → Bool
+bothKept ts us cs p = sideKept ts (topPart cs p) && sideKept us (bottomPart cs p)
+
+module _ (l : ℕ) (ts us : List Terminal) (cs : List ℕ) (p : ℕ) (size : p ≡ length ts) where
+  tops : topColumns (sheetWith l ts us) cs ≡ topPart cs p
+  unfolding topColumns
+  tops = rw size
+
+  bottoms : bottomColumns (sheetWith l ts us) cs ≡ bottomPart cs p
+  unfolding bottomColumns
+  bottoms =
+      let whole : length (drop p cs) ≤ length cs - p = rw length-drop (omega arith) in
+      rw (take-all (length cs - p) (drop p cs) whole, size)
+
+  -- the answer, side by side
+  sides :
+      unless (sideAllowed ts (topPart cs p) && sideAllowed us (bottomPart cs p)) Allowed
+      (unless (bothKept ts us cs p) Distance (Density (density (sheetWith l ts us) cs)))
+      ≡ listMeasured (sheetWith l ts us) cs
+  unfolding listMeasured allAllowed distancesKept
+  sides = rw (tops, bottoms)
+
+  -- 13 of the top, then of the bottom, then 14, then the density
+  pub top-refused : sideAllowed ts (topPart cs p) ≡ false → Allowed ≡ listMeasured (sheetWith l ts us) cs
+  top-refused e = rw e at sides
+
+  module _ (top : sideAllowed ts (topPart cs p) ≡ true) where
+    pub bottom-refused : sideAllowed us (bottomPart cs p) ≡ false → Allowed ≡ listMeasured (sheetWith l ts us) cs
+    bottom-refused e = rw (top, e) at sides
+
+    module _ (bottom : sideAllowed us (bottomPart cs p) ≡ true) (found : Bool)
+        (answer : found ≡ not (bothKept ts us cs p)) where
+      pub distance-refused : found ≡ true → Distance ≡ listMeasured (sheetWith l ts us) cs
+      distance-refused e = rw (top, bottom, not-true (bothKept ts us cs p) (sym answer ∙ e)) at sides
+
+      pub measured : found ≡ false → (d : ℕ) → d ≡ density (sheetWith l ts us) cs → Density d ≡ listMeasured (sheetWith l ts us) cs
+      measured e d g = ap Density g ∙ rw (top, bottom, not-false (bothKept ts us cs p) (sym answer ∙ e)) at sides
+
+-- what is said of bytes that the sheet check refuses
+pub sheet-refused :
+    (b cs : List ℕ) (r : Checked) → r ≡ checkOf b → (why : Refusal) → r ≡ Refused why → Unsound why ≡ measuredOf b cs
+unfolding measuredOf
+sheet-refused b cs r answer why e = rw (sym answer ∙ e)
+
+-- and of bytes that it leaves, with their shape
+module _ (b cs : List ℕ) (r : Checked) (answer : r ≡ checkOf b) (passed : r ≡ Sound) (form : Shape) (shaped : form ≡ shapeOf b) where
+  sound-read : read b ≡ sound (sheetOf b)
+  unfolding read
+  sound-read = ap (readAs (sheetOf b)) (sym answer ∙ passed)
+
+  sound-shape : form ≡ shapeAs (sound (sheetOf b))
+  unfolding shapeOf
+  sound-shape = shaped ∙ ap shapeAs sound-read
+
+  sound-measured : measuredOf b cs ≡ sheetMeasured (sheetOf b) cs
+  unfolding measuredOf
+  sound-measured = rw (sym answer ∙ passed)
+
+  pins-counted : form .pins ≡ length (sheetOf b .top) + length (sheetOf b .bottom)
+  pins-counted = ap (λ (f : Shape). f .pins) sound-shape
+
+  -- 12
+  pub count-refused : (length cs ≡ form .pins → ⊥) → Count ≡ measuredOf b cs
+  unfolding sheetMeasured
+  count-refused h =
+      sym
+      (sound-measured
+      ∙ rw (ne-eqb (length cs) (length (sheetOf b .top) + length (sheetOf b .bottom)) (λ e. h (e ∙ sym pins-counted))))
+
+  -- a section has its side's terminals
+  part-terminals : (side : Side) (part : List ℕ) → part ≡ sectionOf b side → terminalsIn part ≡ terminals (sheetOf b) (sideOf side)
+  part-terminals side part e = ap terminalsIn e ∙ section-terminals b (sheetOf b) sound-read side
+
+  columns-counted : form .columns ≡ sheetOf b .columns
+  columns-counted = ap (λ (f : Shape). f .columns) sound-shape
+
+  -- a list that is p+q long, beside the two sections
+  module _ (long : length cs ≡ form .pins) (top bottom : List ℕ) (isTop : top ≡ sectionOf b Top)
+      (isBottom : bottom ≡ sectionOf b Bottom) where
+    pub laid : Laid top bottom cs (form .top) (form .columns)
+    laid =
+        let s = read-sound b (sheetOf b) sound-read in
+        let p : form .top ≡ length (sheetOf b .top) = ap (λ (f : Shape). f .top) sound-shape in
+        let ts : length (terminalsIn top) ≡ length (sheetOf b .top) = ap length (part-terminals Top top isTop) in
+        let us : length (terminalsIn bottom) ≡ length (sheetOf b .bottom) = ap length (part-terminals Bottom bottom isBottom) in
+        record {
+          tops = p ∙ sym ts;
+          long = omega (arith, pins-counted);
+          few = omega (arith, pins-counted, s .counts);
+          short = omega (arith, columns-counted, s .columns);
+        }
+
+    pub list-measured :
+        (m : Measured) → m ≡ listMeasured (sheetWith (form .columns) (terminalsIn top) (terminalsIn bottom)) cs → m ≡ measuredOf b cs
+    unfolding sheetMeasured
+    list-measured m e =
+        let same : sheetWith (form .columns) (terminalsIn top) (terminalsIn bottom) ≡ sheetOf b
+        = rw (columns-counted, part-terminals Top top isTop, part-terminals Bottom bottom isBottom) in
+        e
+        ∙ ap (λ (s : Sheet). listMeasured s cs) same
+        ∙ sym (sound-measured ∙ rw (eq-eqb (length cs) (length (sheetOf b .top) + length (sheetOf b .bottom)) (long ∙ pins-counted)))

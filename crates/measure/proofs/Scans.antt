@@ -1,0 +1,108 @@
+-- Laws of 13 and 14 as a scan over the places of a side finds them.
+-- Assumes nothing.
+use Prim.Native.Nat.{ℕ, zero, suc, _+_, _-_, _≤_, _<_}
+use mathlib.Core.Path.{_≡_, refl, _∙_, ap}
+use mathlib.Core.List.{List, [], _∷_}
+use mathlib.Core.Bool.{Bool, true, false, cond, _&&_}
+use native.Mathlib.Omega.{arith}
+use native.Mathlib.Numerals.{add-one}
+use lib.ListN.{length, getD, drop, drop-of-length-le}
+use lib.Seq.{drop-cons}
+use lib.Dec.{eqb}
+use Rattle.channel.specs.Sheet.{Terminal}
+use Rattle.channel.specs.Assignment.{allows, inRange}
+use Rattle.sheet.specs.declared.Record.{Record}
+use Rattle.sheet.specs.Format.{recordOf}
+use Rattle.sheet.specs.Parts.{nth, terminalsIn, entryIn}
+use Rattle.measure.specs.Answer.{sideAllowed, laterKept, sideKept}
+use Rattle.measure.specs.Inner.{recordOr, ofSide}
+
+-- the first of what is left of a list, and what stands behind it
+pub drop-next : {A : Type 0} (xs : List A) (i : ℕ) (d : A) → i < length xs → drop i xs ≡ getD xs i d ∷ drop (i + 1) xs
+drop-next xs i d h = rw add-one (drop-cons xs i d h)
+
+-- stands past a side's end
+abbrev pub noTerminal : Terminal
+noTerminal = record { net = 0; least = 0; greatest = 0; allowed = 0 }
+
+-- the record of an entry is that of the terminal
+nth-record : (ts : List Terminal) (i : ℕ) → recordOr (nth ts i) ≡ recordOf (getD ts i noTerminal)
+nth-record [] i = refl
+nth-record (t ∷ ts) zero = refl
+nth-record (t ∷ ts) (suc i) = nth-record ts i
+
+-- the record at place i + 1 of a section is that of its terminal i
+pub record-terminal : (part : List ℕ) (i : ℕ) → recordOr (entryIn part (i + 1)) ≡ recordOf (getD (terminalsIn part) i noTerminal)
+unfolding entryIn
+record-terminal part i = rw add-one (nth-record (terminalsIn part) i)
+
+-- one place of a side, of which r is the record: the rest is said by the places behind it
+module _ (part columns : List ℕ) (same : length columns ≡ length (terminalsIn part)) (i : ℕ) (inside : i < length columns)
+    (r : Record) (answer : r ≡ recordOr (entryIn part (i + 1))) where
+  terminals-next : drop i (terminalsIn part) ≡ getD (terminalsIn part) i noTerminal ∷ drop (i + 1) (terminalsIn part)
+  terminals-next = drop-next (terminalsIn part) i noTerminal (omega arith)
+
+  pub allowed-more :
+      sideAllowed (drop i (terminalsIn part)) (drop i columns)
+      ≡ (allows (r .allowed) (getD columns i 0) && sideAllowed (drop (i + 1) (terminalsIn part)) (drop (i + 1) columns))
+  allowed-more = rw (terminals-next, drop-next columns i 0 inside, answer ∙ record-terminal part i)
+
+  pub kept-more :
+      (before : ℕ)
+      → laterKept (drop i (terminalsIn part)) before (drop i columns)
+      ≡ (inRange (r .least) (r .greatest) before (getD columns i 0)
+      && laterKept (drop (i + 1) (terminalsIn part)) (getD columns (i + 1 - 1) 0) (drop (i + 1) columns))
+  kept-more before =
+      let back : i + 1 - 1 ≡ i = omega arith in
+      rw (terminals-next, drop-next columns i 0 inside, answer ∙ record-terminal part i, back)
+
+-- past the last place nothing is left
+module _ (ts : List Terminal) (cs : List ℕ) (i : ℕ) (past : length ts ≤ i) where
+  pub allowed-past : sideAllowed (drop i ts) (drop i cs) ≡ true
+  allowed-past = rw (drop-of-length-le ts past)
+
+  pub kept-past : (before : ℕ) → laterKept (drop i ts) before (drop i cs) ≡ true
+  kept-past before = rw (drop-of-length-le ts past)
+
+-- the first terminal of a side is tied to nothing
+pub kept-first : (ts : List Terminal) (cs : List ℕ) → sideKept ts cs ≡ laterKept (drop 1 ts) (getD cs 0 0) (drop 1 cs)
+kept-first [] cs = refl
+kept-first (t ∷ ts) (c ∷ cs) = refl
+kept-first (t ∷ []) [] = refl
+kept-first (t ∷ u ∷ ts) [] = refl
+
+-- 14 of side k, from the two sections and the two sides' columns
+abbrev pub keptAt : List ℕ → List ℕ → List ℕ → List ℕ → ℕ → Bool
+keptAt top bottom tops bottoms k = sideKept (terminalsIn (ofSide top bottom k)) (ofSide tops bottoms k)
+
+-- each side has as many columns as terminals
+pub side-same :
+    (top bottom tops bottoms : List ℕ) → length tops ≡ length (terminalsIn top) → length bottoms ≡ length (terminalsIn bottom)
+    → (k : ℕ) → length (ofSide tops bottoms k) ≡ length (terminalsIn (ofSide top bottom k))
+side-same top bottom tops bottoms h g k = go (eqb k 0)
+  where
+    go : (t : Bool) → length (cond t tops bottoms) ≡ length (terminalsIn (cond t top bottom))
+    go true = h
+    go false = g
+
+-- what holds of the sides from k on: 0 is the top, 1 the bottom
+abbrev pub fromSide : (ℕ → Bool) → ℕ → Bool
+fromSide f zero = f 0 && f 1
+fromSide f (suc zero) = f 1
+fromSide f (suc (suc k)) = true
+
+-- a side that keeps the rule leaves it to the sides behind it, and one that breaks it decides
+pub from-kept : (f : ℕ → Bool) (k : ℕ) → k < 2 → f k ≡ true → fromSide f k ≡ fromSide f (k + 1)
+from-kept f zero h e = ap (λ (t : Bool). t && f 1) e
+from-kept f (suc zero) h e = e
+from-kept f (suc (suc k)) h e = absurd (omega arith)
+
+pub from-broken : (f : ℕ → Bool) (k : ℕ) → k < 2 → f k ≡ false → fromSide f k ≡ false
+from-broken f zero h e = ap (λ (t : Bool). t && f 1) e
+from-broken f (suc zero) h e = e
+from-broken f (suc (suc k)) h e = absurd (omega arith)
+
+pub from-past : (f : ℕ → Bool) (k : ℕ) → 2 ≤ k → fromSide f k ≡ true
+from-past f zero h = absurd (omega arith)
+from-past f (suc zero) h = absurd (omega arith)
+from-past f (suc (suc k)) h = refl

@@ -1,0 +1,99 @@
+-- `measure::list_density` meets its contract: the greatest of the counts is the density.
+-- Assumes nothing.
+use borrow.Author.Needs.{needs}
+use Rattle.measure.proofs.count.list_density.Statement.{statement}
+use Prim.Native.Nat.{ℕ, _≤_}
+use mathlib.Core.Path.{_≡_, refl, sym, _∙_, ap, fun-ext, subst}
+use mathlib.Core.List.{List, _++_}
+use native.Mathlib.Omega.{arith}
+use lib.ListN.{length, length-append, take, drop, replicate}
+use lib.Seq.{length-take-le, take-at}
+use Rattle.channel.specs.Density.{maximumTo}
+use Rattle.sheet.specs.Parts.{terminalsIn}
+use Rattle.measure.specs.Inner.{countedAt}
+use Rattle.measure.proofs.Sums.{length-nets}
+use Rattle.measure.proofs.Measures.{bytes-below, density-counted}
+use Rattle.measure.proofs.count.list_density.Tie as tie
+
+array-borrow-prefix-nets : tie.Need-array-borrow-prefix-nets
+array-borrow-prefix-nets c = search needs
+
+slice-aggregate-all-nets : tie.Need-slice-aggregate-all-nets
+slice-aggregate-all-nets c = sym (length-take-le _ _ (c .before .before .before .before .pre .few))
+
+all-nets-requires : tie.Need-all-nets-requires
+all-nets-requires c κs =
+    let s = c .before .before .before .before in
+    (s .pre .tops, length-take-le _ _ (s .pre .few) ∙ s .pre .long)
+
+-- as many nets are stored as the list has columns
+filled : (d : tie.After-all-nets) → length (d .all-nets .last .1 .1 .1 .0) ≡ length (d .before .before .before .before .before .args .columns .now)
+filled d =
+    let s = d .before .before .before .before .before in
+    ap length (d .all-nets .ensures)
+    ∙ length-nets (terminalsIn (s .args .top .now)) (terminalsIn (s .args .bottom .now))
+    ∙ sym (s .pre .long ∙ rw (s .pre .tops))
+
+-- and they stand in front
+held : (d : tie.After-all-nets)
+    → let n : ℕ = length (d .before .before .before .before .before .args .columns .now) in
+    take n (d .all-nets .last .1 .1 .1 .0 ++ drop n (replicate 128 0)) ≡ d .all-nets .last .1 .1 .1 .0
+held d =
+    let n : ℕ = length (d .before .before .before .before .before .args .columns .now) in
+    take-at (d .all-nets .last .1 .1 .1 .0) (drop n (replicate 128 0)) n (filled d)
+
+array-share-prefix-nets : tie.Need-array-share-prefix-nets
+array-share-prefix-nets c = rw length-append (omega (arith, filled (c .before)))
+
+slice-aggregate-count-nets : tie.Need-slice-aggregate-count-nets
+slice-aggregate-count-nets c = let d = c .before .before in sym (ap length (held d) ∙ filled d)
+
+slice-aggregate-count-nets-2 : tie.Need-slice-aggregate-count-nets-2
+slice-aggregate-count-nets-2 c = search needs
+
+count-nets-requires : tie.Need-count-nets-requires
+count-nets-requires c κs =
+    let d = c .before .before .before in
+    let s = d .before .before .before .before .before in
+    let size = ap length (held d) ∙ filled d in
+    (size, subst (λ (k : ℕ). k ≤ 128) (sym size) (s .pre .few), refl)
+
+slice-aggregate-greatest : tie.Need-slice-aggregate-greatest
+slice-aggregate-greatest c = search needs
+
+greatest-requires : tie.Need-greatest-requires
+greatest-requires c κs = search needs
+
+wide-requires : tie.Need-wide-requires
+wide-requires c κs = search needs
+
+returns : tie.Need-returns
+returns c =
+    let d = c .before .before .before .before .before .before .before .before in
+    let s = d .before .before .before .before .before in
+    let a = s .args in
+    let bytes = bytes-below (a .columns .now) (λ (i : ℕ). omega (arith, d .before .before .shared-slice-known3 .given i)) in
+    c .wide .ensures
+    ∙ c .before .greatest .ensures
+    ∙ ap (maximumTo (a .l))
+    (fun-ext
+    (λ (k : ℕ).
+    c .before .before .before .before .count-nets .ensures k
+    ∙ ap (λ (ns : List ℕ). countedAt ns (a .columns .now) k) (held d ∙ d .all-nets .ensures)))
+    ∙ sym (density-counted (a .l) (terminalsIn (a .top .now)) (terminalsIn (a .bottom .now)) (a .columns .now) bytes)
+
+pub list-density-spec : {M : Type 1} → statement M
+list-density-spec =
+    tie.close
+    (tie.spec
+    array-borrow-prefix-nets
+    slice-aggregate-all-nets
+    all-nets-requires
+    array-share-prefix-nets
+    slice-aggregate-count-nets
+    slice-aggregate-count-nets-2
+    count-nets-requires
+    slice-aggregate-greatest
+    greatest-requires
+    wide-requires
+    returns)

@@ -1,0 +1,91 @@
+-- `measure::measure_list` meets its contract: each answer is that of the first of the tests that refuses, else the density.
+-- Assumes nothing.
+use borrow.Author.Needs.{needs}
+use Rattle.measure.proofs.measure_list.Statement.{statement}
+use mathlib.Core.Path.{sym, _∙_}
+use native.Mathlib.Omega.{arith}
+use borrow.Author.Tests.{not-true, not-false}
+use lib.Seq.{length-take-le}
+use Rattle.sheet.specs.Parts.{terminalsIn}
+use Rattle.measure.proofs.Measures.{top-refused, bottom-refused, distance-refused, measured}
+use Rattle.measure.proofs.measure_list.Tie as tie
+
+slice-aggregate-tops : tie.Need-slice-aggregate-tops
+slice-aggregate-tops c = sym (length-take-le _ _ (omega arith))
+
+sub-bottoms : tie.Need-sub-bottoms
+sub-bottoms c = search needs
+
+part-bottoms-start : tie.Need-part-bottoms-start
+part-bottoms-start c = search needs
+
+part-bottoms-end : tie.Need-part-bottoms-end
+part-bottoms-end c = search needs
+
+all-allowed-requires : tie.Need-all-allowed-requires
+all-allowed-requires c κs = length-take-le _ _ (omega arith) ∙ c .before .before .before .before .before .pre .tops
+
+returns : tie.Need-returns
+returns c =
+    let s = c .before .before .before .before .before .before .before in
+    let a = s .args in
+    top-refused (a .l) (terminalsIn (a .top .now)) (terminalsIn (a .bottom .now)) (a .columns .now) (a .p) (s .pre .tops)
+    (sym (c .before .all-allowed .ensures) ∙ not-true _ (c .if1 .taken))
+
+all-allowed-requires-2 : tie.Need-all-allowed-requires-2
+all-allowed-requires-2 c κs = search needs
+
+returns-2 : tie.Need-returns-2
+returns-2 c =
+    let s = c .before .before .before .before .before .before .before .before .before in
+    let a = s .args in
+    bottom-refused (a .l) (terminalsIn (a .top .now)) (terminalsIn (a .bottom .now)) (a .columns .now) (a .p) (s .pre .tops)
+    (sym (c .before .before .before .all-allowed .ensures) ∙ not-false _ (c .before .before .if1 .left))
+    (sym (c .before .all-allowed2 .ensures) ∙ not-true _ (c .if2 .taken))
+
+out-of-range-requires : tie.Need-out-of-range-requires
+out-of-range-requires c κs = (length-take-le _ _ (omega arith) ∙ c .before .before .before .before .before .before .before .before .before .pre .tops, omega arith)
+
+returns-3 : tie.Need-returns-3
+returns-3 c =
+    let s = c .before .before .before .before .before .before .before .before .before .before .before in
+    let a = s .args in
+    distance-refused (a .l) (terminalsIn (a .top .now)) (terminalsIn (a .bottom .now)) (a .columns .now) (a .p) (s .pre .tops)
+    (sym (c .before .before .before .before .before .all-allowed .ensures) ∙ not-false _ (c .before .before .before .before .if1 .left))
+    (sym (c .before .before .before .all-allowed2 .ensures) ∙ not-false _ (c .before .before .if2 .left))
+    (c .before .out-of-range .result)
+    (c .before .out-of-range .ensures)
+    (c .if3 .taken)
+
+list-density-requires : tie.Need-list-density-requires
+list-density-requires c κs = search needs
+
+returns-4 : tie.Need-returns-4
+returns-4 c =
+    let s = c .before .before .before .before .before .before .before .before .before .before .before .before in
+    let a = s .args in
+    measured (a .l) (terminalsIn (a .top .now)) (terminalsIn (a .bottom .now)) (a .columns .now) (a .p) (s .pre .tops)
+    (sym (c .before .before .before .before .before .before .all-allowed .ensures) ∙ not-false _ (c .before .before .before .before .before .if1 .left))
+    (sym (c .before .before .before .before .all-allowed2 .ensures) ∙ not-false _ (c .before .before .before .if2 .left))
+    (c .before .before .out-of-range .result)
+    (c .before .before .out-of-range .ensures)
+    (c .before .if3 .left)
+    (c .list-density .result)
+    (c .list-density .ensures)
+
+pub measure-list-spec : {M : Type 1} → statement M
+measure-list-spec =
+    tie.close
+    (tie.spec
+    slice-aggregate-tops
+    sub-bottoms
+    part-bottoms-start
+    part-bottoms-end
+    all-allowed-requires
+    returns
+    all-allowed-requires-2
+    returns-2
+    out-of-range-requires
+    returns-3
+    list-density-requires
+    returns-4)

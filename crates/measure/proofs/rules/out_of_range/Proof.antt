@@ -1,0 +1,179 @@
+-- `measure::out_of_range` meets its contract. The inner loop's invariant: what is still to be said of the side is said by the places that
+-- are left. The outer loop's: what is still to be said of the list is said by the sides that are left. The measures are how many they are.
+-- Assumes nothing.
+use Rattle.measure.proofs.rules.out_of_range.Statement.{statement}
+use Prim.Native.Nat.{ℕ, _+_, _-_, _≤_}
+use mathlib.Core.Path.{_≡_, refl, sym, _∙_, ap, ap₂}
+use mathlib.Core.List.{List}
+use mathlib.Core.Bool.{Bool, false, not, _&&_}
+use native.Mathlib.Omega.{arith}
+use borrow.Author.Needs.{needs}
+use borrow.Author.Tests.{not-true, not-false}
+use lib.ListN.{length, getD, drop}
+use Rattle.sheet.specs.Parts.{terminalsIn}
+use Rattle.measure.specs.Answer.{laterKept, sideKept}
+use Rattle.measure.proofs.Scans.{kept-more, kept-past, kept-first, keptAt, side-same, fromSide, from-past, from-kept, from-broken}
+use Rattle.measure.proofs.rules.out_of_range.Tie as tie
+
+abbrev Inv-loop : tie.InvT-loop
+Inv-loop top bottom tops bottoms found₀ side part columns i₀ found i =
+    (1 ≤ i)
+    × (found ≡ found₀)
+    × (sideKept (terminalsIn part) columns ≡ laterKept (drop i (terminalsIn part)) (getD columns (i - 1) 0) (drop i columns))
+
+abbrev μ-loop : tie.MeasureT-loop
+μ-loop top bottom tops bottoms found₀ side part columns i₀ found i = length columns - i
+
+abbrev Inv-scan : tie.InvT-scan
+Inv-scan top bottom tops bottoms found₀ side₀ found side =
+    (side ≤ 2)
+    × (found ≡ false)
+    × (fromSide (keptAt top bottom tops bottoms) 0 ≡ fromSide (keptAt top bottom tops bottoms) side)
+
+abbrev μ-scan : tie.MeasureT-scan
+μ-scan top bottom tops bottoms found₀ side₀ found side = 2 - side
+
+scan-holds : tie.Need-scan-holds Inv-loop μ-loop Inv-scan μ-scan
+scan-holds c = (omega arith, refl, refl)
+
+of-side-requires : tie.Need-of-side-requires Inv-loop μ-loop Inv-scan μ-scan
+of-side-requires c κs = search needs
+
+of-side-requires-2 : tie.Need-of-side-requires-2 Inv-loop μ-loop Inv-scan μ-scan
+of-side-requires-2 c κs = search needs
+
+-- 14 of each side of the list
+kept : tie.After-of-side2 Inv-loop μ-loop Inv-scan μ-scan → ℕ → Bool
+kept d =
+    let a = d .before .before .before .before .before .before .before .before .args in
+    keptAt (a .top .now) (a .bottom .now) (a .tops .now) (a .bottoms .now)
+
+-- of the present side it is said by its section and its columns, which are as many as its terminals
+here : (d : tie.After-of-side2 Inv-loop μ-loop Inv-scan μ-scan)
+    → kept d (d .before .before .before .scan .side) ≡ sideKept (terminalsIn (d .before .of-side .result .now)) (d .of-side2 .result .now)
+unfolding kept
+here d = sym (ap₂ (λ (part columns : List ℕ). sideKept (terminalsIn part) columns) (d .before .of-side .ensures) (d .of-side2 .ensures))
+
+same : (d : tie.After-of-side2 Inv-loop μ-loop Inv-scan μ-scan)
+    → length (d .of-side2 .result .now) ≡ length (terminalsIn (d .before .of-side .result .now))
+same d =
+    let s = d .before .before .before .before .before .before .before .before in
+    rw (d .of-side2 .ensures, d .before .of-side .ensures)
+    (side-same (s .args .top .now) (s .args .bottom .now) (s .args .tops .now) (s .args .bottoms .now) (s .pre .0) (s .pre .1)
+    (d .before .before .before .scan .side))
+
+loop-holds : tie.Need-loop-holds Inv-loop μ-loop Inv-scan μ-scan
+loop-holds c = (omega arith, refl, kept-first (terminalsIn (c .before .of-side .result .now)) (c .of-side2 .result .now))
+
+add-terminal-at : tie.Need-add-terminal-at Inv-loop μ-loop Inv-scan μ-scan
+add-terminal-at c = omega arith
+
+terminal-at-requires : tie.Need-terminal-at-requires Inv-loop μ-loop Inv-scan μ-scan
+terminal-at-requires c κs = search needs
+
+sub-in-range : tie.Need-sub-in-range Inv-loop μ-loop Inv-scan μ-scan
+sub-in-range c = omega arith
+
+shared-slice-read-in-range : tie.Need-shared-slice-read-in-range Inv-loop μ-loop Inv-scan μ-scan
+shared-slice-read-in-range c = omega arith
+
+shared-slice-read-in-range-2 :
+    tie.Need-shared-slice-read-in-range-2 Inv-loop μ-loop Inv-scan μ-scan
+shared-slice-read-in-range-2 c = omega arith
+
+in-range-requires : tie.Need-in-range-requires Inv-loop μ-loop Inv-scan μ-scan
+in-range-requires c κs = search needs
+
+-- what is said of the side at a place: the distance's answer, then the places behind it
+turn : (d : tie.After-in-range Inv-loop μ-loop Inv-scan μ-scan)
+    → let part = d .before .before .before .before .before .before .before .of-side .result .now in
+    let columns = d .before .before .before .before .before .before .of-side2 .result .now in
+    let i = d .before .before .before .before .before .loop .i in
+    sideKept (terminalsIn part) columns
+    ≡ (d .in-range .result && laterKept (drop (i + 1) (terminalsIn part)) (getD columns (i + 1 - 1) 0) (drop (i + 1) columns))
+turn d =
+    let part : List ℕ = d .before .before .before .before .before .before .before .of-side .result .now in
+    let columns : List ℕ = d .before .before .before .before .before .before .of-side2 .result .now in
+    let l = d .before .before .before .before .before .loop in
+    l .inv .2
+    ∙ kept-more part columns (same (d .before .before .before .before .before .before)) (l .i) (d .before .before .before .before .loop-test .taken)
+    (d .before .before .before .terminal-at .result) (d .before .before .before .terminal-at .ensures) (getD columns (l .i - 1) 0)
+    ∙ ap (λ (ok : Bool). ok && laterKept (drop (l .i + 1) (terminalsIn part)) (getD columns (l .i + 1 - 1) 0) (drop (l .i + 1) columns))
+    (sym (d .in-range .ensures))
+
+add-i : tie.Need-add-i Inv-loop μ-loop Inv-scan μ-scan
+add-i c = omega arith
+
+loop-less : tie.Need-loop-less Inv-loop μ-loop Inv-scan μ-scan
+loop-less c = omega arith
+
+loop-again : tie.Need-loop-again Inv-loop μ-loop Inv-scan μ-scan
+loop-again c = (
+  omega arith,
+  c .before .before .before .before .before .before .loop .inv .1,
+  turn (c .before) ∙ rw (not-false (c .before .in-range .result) (c .if1 .left)),
+)
+
+add-side : tie.Need-add-side Inv-loop μ-loop Inv-scan μ-scan
+add-side c = omega arith
+
+scan-less : tie.Need-scan-less Inv-loop μ-loop Inv-scan μ-scan
+scan-less c = omega arith
+
+scan-again : tie.Need-scan-again Inv-loop μ-loop Inv-scan μ-scan
+unfolding kept
+scan-again c =
+    let d = c .before .before in
+    let s = d .before .before .before .scan in
+    let l = c .before .loop in
+    let past : length (terminalsIn (d .before .of-side .result .now)) ≤ l .i = omega (arith, same d) in (
+      omega arith,
+      l .inv .1 ∙ s .inv .1,
+      s .inv .2
+          ∙ from-kept (kept d) (s .side) (omega (arith, d .before .before .scan-test .taken)) (here d ∙ l .inv .2 ∙ kept-past _ _ (l .i) past _),
+    )
+
+returns : tie.Need-returns Inv-loop μ-loop Inv-scan μ-scan
+returns c =
+    let s = c .before .scan in
+    let a = c .before .before .before .before .before .before .args in
+    let kept : ℕ → Bool = keptAt (a .top .now) (a .bottom .now) (a .tops .now) (a .bottoms .now) in
+    s .inv .1 ∙ sym (ap not (s .inv .2 ∙ from-past kept (s .side) (c .scan-test .left)))
+
+returns-2 : tie.Need-returns-2 Inv-loop μ-loop Inv-scan μ-scan
+unfolding kept
+returns-2 c =
+    let d = c .before .before .before .before .before .before .before in
+    let s = d .before .before .before .scan in
+    sym
+    (ap not
+    (s .inv .2
+    ∙ from-broken (kept d) (s .side) (omega (arith, d .before .before .scan-test .taken))
+    (here d ∙ turn (c .before) ∙ rw (not-true (c .before .in-range .result) (c .if1 .taken)))))
+
+pub out-of-range-spec : {M : Type 1} → statement M
+out-of-range-spec =
+    tie.close
+    (tie.spec
+    Inv-loop
+    μ-loop
+    Inv-scan
+    μ-scan
+    scan-holds
+    of-side-requires
+    of-side-requires-2
+    loop-holds
+    add-terminal-at
+    terminal-at-requires
+    sub-in-range
+    shared-slice-read-in-range
+    shared-slice-read-in-range-2
+    in-range-requires
+    add-i
+    loop-less
+    loop-again
+    add-side
+    scan-less
+    scan-again
+    returns
+    returns-2)

@@ -1,0 +1,26 @@
+-- `measure::terminal_at` meets its contract: the record of the entry, if there is one.
+-- Assumes nothing.
+use mathlib.Core.Path.{sym, _∙_, ap}
+use Rattle.measure.specs.Inner.{recordOr}
+use borrow.Author.Needs.{needs}
+use Rattle.measure.proofs.rules.terminal_at.Statement.{statement}
+use Rattle.measure.proofs.rules.terminal_at.Tie as tie
+
+record-in-requires : tie.Need-record-in-requires
+record-in-requires c κs = search needs
+
+enum-known-entry : tie.Need-enum-known-entry
+enum-known-entry c = search needs
+
+enum-told : tie.Need-enum-told
+enum-told c = search needs
+
+returns : tie.Need-returns
+returns c = ap recordOr (sym (c .before .entry .given .1) ∙ c .before .before .before .record-in .ensures)
+
+returns-2 : tie.Need-returns-2
+returns-2 c = ap recordOr (sym (c .enum-told .given .1) ∙ c .before .before .record-in .ensures)
+
+pub terminal-at-spec : {M : Type 1} → statement M
+terminal-at-spec =
+    tie.close (tie.spec record-in-requires enum-known-entry enum-told returns returns-2)

@@ -1,0 +1,62 @@
+// The density of a given column list. The sheet is read only through the sheet layer.
+
+mod count;
+mod rules;
+
+use count::list_density;
+use rules::all_allowed;
+use rules::out_of_range;
+use sheet::Checked;
+use sheet::Refusal;
+use sheet::Side;
+ghost use mathlib.Core.Path.{_≡_};
+ghost use Rattle.sheet.specs.Parts.{terminalsIn};
+ghost use Rattle.measure.specs.Answer.{measuredOf, listMeasured};
+ghost use Rattle.measure.specs.Inner.{sheetWith, Laid};
+
+// The answer of a measurement; `numberOf` and `densityOf` of specs/Answer.antt give its number and density.
+pub enum Measured {
+    Density(u32),
+    Sheet(Refusal),
+    Count,
+    Allowed,
+    Distance,
+}
+
+// Measures a column list: 1 to 8 of the sheet, then 12, 13 and 14 of the list, otherwise its density.
+pub fn measure(s: &[u8], columns: &[u8]) -> Measured
+    ensures { λ r. ⌜ r ≡ measuredOf (now (s .entry)) (now (columns .entry)) ⌝ }
+{
+    let checked = sheet::check(s);
+    match checked {
+        Checked::Refused(why) => Measured::Sheet(why),
+        Checked::Sound => {
+            let shape = sheet::shape_of(s);
+            if columns.len() != shape.pins {
+                return Measured::Count;
+            }
+            let top = sheet::section(s, Side::Top);
+            let bottom = sheet::section(s, Side::Bottom);
+            measure_list(top, bottom, columns, shape.top, shape.columns)
+        }
+    }
+}
+
+// 13, 14 and the density of a list that is p+q long, from the two sections and the channel's length.
+fn measure_list<'a>(top: &'a [u8], bottom: &'a [u8], columns: &[u8], p: usize, l: usize) -> Measured
+    requires { ⌜ Laid (now top) (now bottom) (now columns) p l ⌝ }
+    ensures { λ r. ⌜ r ≡ listMeasured (sheetWith l (terminalsIn (now (top .entry))) (terminalsIn (now (bottom .entry)))) (now (columns .entry)) ⌝ }
+{
+    let tops = &columns[..p];
+    let bottoms = &columns[p..];
+    if !all_allowed(top, tops) {
+        return Measured::Allowed;
+    }
+    if !all_allowed(bottom, bottoms) {
+        return Measured::Allowed;
+    }
+    if out_of_range(top, bottom, tops, bottoms) {
+        return Measured::Distance;
+    }
+    Measured::Density(list_density(top, bottom, columns, p, l))
+}

@@ -1,0 +1,77 @@
+// What 13 and 14 ask of a list as long as the terminals.
+use sheet::Entry;
+use sheet::Record;
+ghost use mathlib.Core.Path.{_≡_};
+ghost use mathlib.Core.Bool.{not, _&&_};
+ghost use lib.ListN.{length};
+ghost use Rattle.sheet.specs.Parts.{terminalsIn, entryIn};
+ghost use Rattle.measure.specs.Answer.{sideAllowed, sideKept};
+ghost use Rattle.measure.specs.Inner.{recordOr, ofSide};
+
+// The record at a place, from 1, of a section; all 0 where there is none.
+pub fn terminal_at(part: &[u8], place: usize) -> Record
+    ensures { λ r. ⌜ r ≡ recordOr (entryIn (now (part .entry)) place) ⌝ }
+{
+    let entry = sheet::record_in(part, place);
+    match entry {
+        Entry::Terminal(r) => r,
+        Entry::Nothing => Record {
+            net: 0,
+            least: 0,
+            greatest: 0,
+            allowed: 0,
+        },
+    }
+}
+
+// 13 of one side: whether each column is in its terminal's set.
+pub fn all_allowed(part: &[u8], columns: &[u8]) -> bool
+    requires { ⌜ length (now columns) ≡ length (terminalsIn (now part)) ⌝ }
+    ensures { λ r. ⌜ r ≡ sideAllowed (terminalsIn (now (part .entry))) (now (columns .entry)) ⌝ }
+{
+    let mut i = 0;
+    while i < columns.len() {
+        let r = terminal_at(part, i + 1);
+        if !sheet::allows(r.allowed, columns[i]) {
+            return false;
+        }
+        i += 1;
+    }
+    true
+}
+
+// Of two parts, that of a side: 0 is the top, 1 the bottom.
+fn of_side<'a>(top: &'a [u8], bottom: &'a [u8], side: usize) -> &'a [u8]
+    ensures { λ r. ⌜ now r ≡ ofSide (now (top .entry)) (now (bottom .entry)) side ⌝ }
+{
+    if side == 0 { top } else { bottom }
+}
+
+// 14: whether a distance is out of range, top pairs before bottom pairs. The scan stops at the first bad pair.
+pub fn out_of_range<'a, 'b>(
+    top: &'a [u8],
+    bottom: &'a [u8],
+    tops: &'b [u8],
+    bottoms: &'b [u8],
+) -> bool
+    requires { ⌜ (length (now tops) ≡ length (terminalsIn (now top))) × (length (now bottoms) ≡ length (terminalsIn (now bottom))) ⌝ }
+    ensures { λ r. ⌜ r ≡ not (sideKept (terminalsIn (now (top .entry))) (now (tops .entry)) && sideKept (terminalsIn (now (bottom .entry))) (now (bottoms .entry))) ⌝ }
+{
+    let mut found = false;
+    let mut side = 0;
+    'scan: while side < 2 {
+        let part = of_side(top, bottom, side);
+        let columns = of_side(tops, bottoms, side);
+        let mut i = 1;
+        while i < columns.len() {
+            let r = terminal_at(part, i + 1);
+            if !sheet::in_range(columns[i - 1], columns[i], r.least, r.greatest) {
+                found = true;
+                break 'scan;
+            }
+            i += 1;
+        }
+        side += 1;
+    }
+    found
+}
