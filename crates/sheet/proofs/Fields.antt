@@ -1,11 +1,11 @@
 -- Laws of the definitions of specs/Format.antt.
 -- Assumes nothing.
-use Prim.Native.Nat.{ℕ, zero, suc, _+_, _-_, _*_, _^_, _≤_, _<_}
-use mathlib.Core.Path.{_≡_, refl, sym, _∙_, ap, ap₂}
+use Prim.Native.Nat.{ℕ, suc, _+_, _-_, _*_, _^_, _≤_, _<_}
+use mathlib.Core.Path.{_≡_, refl, _∙_, ap, ap₂}
 use mathlib.Core.List.{List}
 use native.Mathlib.Omega.{arith}
 use native.Mathlib.Nat.{add-comm, mul-comm, sub-self, lt-of-lt-of-le}
-use lib.ListN.{length, getD}
+use lib.ListN.{getD}
 use lib.Arith.{digits-lt}
 use lib.Pow.{pow-add, pow-mono}
 use Rattle.sheet.specs.Format.{little}

@@ -11,7 +11,6 @@ use Rattle.channel.specs.Sheet.{Terminal, Sheet, terminals}
 use Rattle.sheet.specs.declared.Checked.{Checked}
 use Rattle.sheet.specs.declared.Checked.the-variants.{Sound, Refused}
 use Rattle.sheet.specs.declared.Refusal.{Refusal}
-use Rattle.sheet.specs.declared.Entry.{Entry}
 use Rattle.sheet.specs.declared.Entry.the-variants.{Terminal as Found, Nothing}
 use Rattle.sheet.specs.declared.format.Part.{Part}
 use Rattle.sheet.specs.declared.format.Trailer.{Trailer}

@@ -1,15 +1,14 @@
 -- What is read as a sheet is a sound sheet.
 -- Assumes nothing.
-use Prim.Native.Nat.{ℕ, _≤_}
-use mathlib.Core.Path.{_≡_, refl, sym, _∙_}
+use Prim.Native.Nat.{ℕ}
+use mathlib.Core.Path.{_≡_, refl}
 use mathlib.Core.List.{List, [], _∷_}
 use mathlib.Core.Bool.{Bool, true, false, not}
 use native.Mathlib.Omega.{arith}
-use lib.ListN.{length}
 use lib.Dec.{eqb}
 use borrow.Author.Tests.{not-false}
 use Rattle.channel.specs.Sheet as channel
-use Rattle.channel.specs.Sheet.{Terminal, Sheet, SoundTerminal, SoundFrom, namesAbove, distances?}
+use Rattle.channel.specs.Sheet.{Terminal, Sheet, SoundTerminal, SoundFrom, distances?}
 use Rattle.sheet.specs.declared.Checked.{Checked}
 use Rattle.sheet.specs.declared.Checked.the-variants.{Sound, Refused}
 use Rattle.sheet.specs.declared.Refusal.the-variants.{Net, Distance, Beyond}
@@ -17,7 +16,7 @@ use Rattle.sheet.specs.declared.Side.the-variants.{Top, Bottom}
 use Rattle.sheet.specs.Format.{trailerOf}
 use Rattle.sheet.specs.Check.{refuse, terminalCheck, sideCheck, terminalsOf, checkOf}
 use Rattle.sheet.specs.Read.{readAs, sheetOf, read}
-use Rattle.sheet.specs.Read.Read.{sound, refused}
+use Rattle.sheet.specs.Read.Read.{sound}
 use Rattle.sheet.proofs.Checks.{orElse-sound, refuse-sound, whole}
 use Rattle.sheet.proofs.Sections.{length-terminals}
 

@@ -3,7 +3,7 @@
 use Prim.Native.Nat.{ℕ, zero, suc, _+_, _*_, _/_}
 use mathlib.Core.List.{List, [], _∷_}
 use lib.ListN.{length, take, drop}
-use Rattle.channel.specs.Sheet.{Terminal, Sheet, terminals}
+use Rattle.channel.specs.Sheet.{Terminal, terminals}
 use Rattle.channel.specs.Sheet as channel
 use Rattle.sheet.specs.declared.Checked.{Checked}
 use Rattle.sheet.specs.declared.Checked.the-variants.{Sound, Refused}

@@ -1,24 +1,22 @@
 -- Why the planes, filled one after the other, hold the table.
 -- Assumes nothing.
 use Prim.Native.Nat.{ℕ, zero, suc, _+_, _-_, _*_, _^_, _≤_, _<_}
-use mathlib.Core.Path.{_≡_, refl, sym, _∙_, ap, ap₂, subst}
+use mathlib.Core.Path.{_≡_, refl, sym, _∙_, ap, ap₂}
 use mathlib.Core.List.{List}
 use mathlib.Core.Bool.{Bool, true, false, _&&_, _||_}
 use mathlib.Core.Logic.{_⊎_, inl, inr}
 use native.Mathlib.Omega.{arith}
-use native.Mathlib.Nat.{mul-le-mul-left, mul-le-mul-right, add-mul, one-mul, suc-mul, zero-mul, zero-add, mul-comm}
-use native.Mathlib.Numerals.{add-one}
+use native.Mathlib.Nat.{mul-le-mul-right, add-mul, one-mul, suc-mul, zero-mul}
 use lib.ListN.{length, drop}
 use lib.Seq.{drop-drop}
 use lib.Dec.{leb, ltb, eqb}
 use borrow.Author.Tests.{ltb-true, eqb-true, eqb-false}
-use Rattle.bits.specs.Bits.{bitOf, some}
+use Rattle.bits.specs.Bits.{bitOf}
 use Rattle.bits.specs.Cells.{wordAt, putWord}
 use Rattle.bits.proofs.Laws.{some-cong}
 use Rattle.bits.proofs.Words.{length-put, drop-put, word-put-same, word-put-other}
 use Rattle.table.specs.declared.Grid.{Grid}
 use Rattle.table.specs.Entry.{held, startPart, topPart, bottomPart, bothPart, entry, bottomsOnly, withTops, cell, allowedAt, rangeAt, loadAt}
-use Rattle.table.specs.declared.Place.{Place}
 use Rattle.table.specs.Room.{Measures, Room, Earlier, Filled, baseOf}
 
 -- the products of the places

@@ -4,13 +4,12 @@ use bits::both;
 use bits::either;
 use bits::read_word;
 use bits::single;
-ghost use Prim.Native.Nat.{ℕ, suc, _+_, _-_, _*_, _≤_, _<_};
+ghost use Prim.Native.Nat.{ℕ, _+_, _-_, _*_, _≤_, _<_};
 ghost use mathlib.Core.Path.{_≡_};
 ghost use mathlib.Core.Bool.{_&&_};
 ghost use lib.Dec.{leb};
 ghost use lib.ListN.{length};
-ghost use Rattle.bits.specs.Bits.{bitOf, some};
-ghost use Rattle.table.specs.Entry.{held};
+ghost use Rattle.bits.specs.Bits.{bitOf};
 ghost use Rattle.table.specs.Room.{meeting};
 
 // Whether some row from `low` to `high` of the plane at `base`, whose step to `next` is in `by`, meets the mask.
