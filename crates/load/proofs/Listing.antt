@@ -1,0 +1,117 @@
+-- The list of spans, filled from the front: five stores for a span, and a span for each net where it stands last.
+-- Assumes nothing.
+use Prim.Native.Nat.{ℕ, suc, _+_, _*_, _-_, _≤_, _<_}
+use mathlib.Core.Path.{_≡_, refl, sym, ap, _∙_}
+use mathlib.Core.List.{List, [], _∷_, _++_, append-assoc, append-nil}
+use mathlib.Core.Bool.{Bool, true, false, cond}
+use native.Mathlib.Omega.{arith}
+use native.Mathlib.Nat.{le-refl}
+use native.Mathlib.Numerals.{add-one, towards-suc}
+use lib.ListN.{length, getD, take, drop, set, length-append, length-drop, take-append-drop, drop-of-length-le}
+use lib.Seq.{drop-cons, take-at, sets, sets-eq, length-take-le, take-all}
+use lib.Dec.{eqb}
+use Rattle.channel.specs.Density.{any, distinct}
+use Rattle.load.specs.declared.spans.Span.{Span}
+use Rattle.load.proofs.Crossings.{length-spans}
+use Rattle.load.specs.Ends.{spanOf, numbersOf, spansOf, lastAt, Put, TwoSides, Listed}
+
+-- five stores from index i on
+pub five-stored : (xs : List ℕ) (i a b c d e : ℕ) → i + 5 ≤ length xs
+    → take (i + 5) (set (set (set (set (set xs i a) (i + 1) b) (i + 2) c) (i + 3) d) (i + 4) e) ≡ take i xs ++ (a ∷ b ∷ c ∷ d ∷ e ∷ [])
+five-stored xs i a b c d e h =
+    let vs : List ℕ = a ∷ b ∷ c ∷ d ∷ e ∷ [] in
+    let stores : set (set (set (set (set xs i a) (i + 1) b) (i + 2) c) (i + 3) d) (i + 4) e ≡ sets xs i vs = simp towards-suc in
+    let len : length (take i xs ++ vs) ≡ i + 5 = rw (length-append, length-take-le i xs (omega arith)) in
+    ap (take (i + 5)) (stores ∙ sets-eq vs xs i h) ∙ take-at (take i xs ++ vs) (drop (i + 5) xs) (i + 5) len
+
+-- the nets of a list from index m on, each once: the one at m if it does not stand again, and then the others
+distinct-at : (ns : List ℕ) (m : ℕ) → m < length ns → distinct (drop m ns) ≡ lastAt ns m ++ distinct (drop (m + 1) ns)
+distinct-at ns m h = rw (add-one, drop-cons ns m 0 h) (go (any (eqb (getD ns m 0)) (drop (suc m) ns)))
+  where
+    go : (b : Bool)
+        → cond b (distinct (drop (suc m) ns)) (getD ns m 0 ∷ distinct (drop (suc m) ns))
+        ≡ cond b [] (getD ns m 0 ∷ []) ++ distinct (drop (suc m) ns)
+    go true = refl
+    go false = refl
+
+-- the spans of two lists of nets
+spans-append : (tops bottoms ns ms : List ℕ) → spansOf tops bottoms (ns ++ ms) ≡ spansOf tops bottoms ns ++ spansOf tops bottoms ms
+spans-append tops bottoms [] ms = refl
+spans-append tops bottoms (n ∷ ns) ms = rw (spans-append tops bottoms ns ms)
+
+-- with the span of the net at m put behind the spans so far, those that are left make up the same list
+pub put-more : (tops bottoms ns : List ℕ) (m : ℕ) (old new : List ℕ) (k r : ℕ) (all : List ℕ) → m < length ns
+    → Put tops bottoms ns m old new k r
+    → take (5 * k) old ++ spansOf tops bottoms (distinct (drop m ns)) ≡ all
+    → take (5 * r) new ++ spansOf tops bottoms (distinct (drop (m + 1) ns)) ≡ all
+put-more tops bottoms ns m old new k r all h put e =
+    rw (put .spans, append-assoc, ← spans-append, ← distinct-at ns m h) e
+
+-- at most one span is put
+pub put-count : (ns : List ℕ) (m : ℕ) → length (lastAt ns m) ≤ 1
+put-count ns m = go (any (eqb (getD ns m 0)) (drop (m + 1) ns))
+  where
+    go : (b : Bool) → length (cond b [] (getD ns m 0 ∷ [])) ≤ 1
+    go true = omega arith
+    go false = omega arith
+
+-- behind the last net nothing is left
+pub put-done : (tops bottoms ns : List ℕ) (m : ℕ) (xs all : List ℕ) → length ns ≤ m
+    → xs ++ spansOf tops bottoms (distinct (drop m ns)) ≡ all
+    → xs ≡ all
+put-done tops bottoms ns m xs all h e =
+    sym (append-nil xs) ∙ ap (λ (ms : List ℕ). xs ++ spansOf tops bottoms (distinct ms)) (sym (drop-of-length-le ns h)) ∙ e
+
+-- nothing is put where the net stands again, and its span where it does not
+pub put-none : (tops bottoms ns : List ℕ) (m : ℕ) (old : List ℕ) (k : ℕ) (again : Bool)
+    → again ≡ any (eqb (getD ns m 0)) (drop (m + 1) ns)
+    → again ≡ true
+    → Put tops bottoms ns m old old k k
+put-none tops bottoms ns m old k again e t =
+    record { count = rw (sym e ∙ t) (omega arith); spans = rw (sym e ∙ t, append-nil) }
+
+pub put-one : (tops bottoms ns : List ℕ) (m : ℕ) (old new : List ℕ) (k : ℕ) (again : Bool) (s : Span)
+    → again ≡ any (eqb (getD ns m 0)) (drop (m + 1) ns)
+    → again ≡ false
+    → s ≡ spanOf tops bottoms (getD ns m 0)
+    → take (5 * k + 5) new ≡ take (5 * k) old ++ numbersOf s
+    → Put tops bottoms ns m old new k (k + 1)
+put-one tops bottoms ns m old new k again s e f d h =
+    let five : 5 * (k + 1) ≡ 5 * k + 5 = omega arith in
+    record { count = rw (sym e ∙ f); spans = rw (sym e ∙ f, five, append-nil) (h ∙ ap (λ (s : Span). take (5 * k) old ++ numbersOf s) d) }
+
+-- a part that goes to the end of a list
+pub part-rest : (ns : List ℕ) (a : ℕ) → take (length ns - a) (drop a ns) ≡ drop a ns
+part-rest ns a = take-all (length ns - a) (drop a ns) (rw length-drop (le-refl (length ns - a)))
+
+-- there are no more spans than nets: at most 128, of five numbers each
+length-distinct : (ns : List ℕ) → length (distinct ns) ≤ length ns
+length-distinct [] = le-refl 0
+length-distinct (n ∷ ns) = go (any (eqb n) ns) (length-distinct ns)
+  where
+    go : (b : Bool) → length (distinct ns) ≤ length ns → length (cond b (distinct ns) (n ∷ distinct ns)) ≤ suc (length ns)
+    go true h = omega arith
+    go false h = omega arith
+
+pub listed-length : (tops bottoms spans : List ℕ) → Listed tops bottoms spans → length spans ≤ 640
+listed-length tops bottoms spans listed =
+    omega (
+      arith,
+      ap length (listed .spans),
+      length-spans tops bottoms (distinct (tops ++ bottoms)),
+      length-distinct (tops ++ bottoms),
+      length-append tops bottoms,
+      listed .top,
+      listed .bottom,
+    )
+
+-- the list of the spans of all nets, with the two sides as parts of the list of nets
+pub sides-listed : (ns : List ℕ) (p : ℕ) (xs : List ℕ) → TwoSides ns p
+    → xs ≡ spansOf (take p ns) (drop p ns) (distinct ns)
+    → Listed (take p ns) (take (length ns - p) (drop p ns)) xs
+sides-listed ns p xs two e =
+    rw (part-rest ns p) (record {
+      top = rw (length-take-le p ns (two .split)) (two .top);
+      bottom = rw length-drop (omega (arith, two .bottom));
+      spans = e ∙ ap (λ (ms : List ℕ). spansOf (take p ns) (drop p ns) (distinct ms)) (sym (take-append-drop p ns));
+    })

@@ -1,0 +1,64 @@
+-- `load::write_row` meets its contract. The loop's invariant: the first j cells of the row are written. The measure is how many are left.
+-- Assumes nothing.
+use Prim.Native.Nat.{ℕ, _+_, _≤_, _<_, _-_}
+use mathlib.Core.Path.{_≡_, _∙_}
+use native.Mathlib.Omega.{arith}
+use lib.ListN.{length}
+use Rattle.load.specs.Cuts.{cellAt, Written}
+use Rattle.load.proofs.Table.{row-none, row-more, row-done}
+use Rattle.load.proofs.cells.write_row.Statement.{statement}
+use Rattle.load.proofs.cells.write_row.Tie as tie
+
+abbrev Inv-loop : tie.InvT-loop
+Inv-loop tops bottoms spans i loads₀ j₀ loads j =
+    (j ≤ length bottoms + 1)
+    × Written tops bottoms loads₀ loads (cellAt i 0) (λ (x y : ℕ). (x ≡ i) × (y < j))
+
+abbrev μ-loop : tie.MeasureT-loop
+μ-loop tops bottoms spans i loads₀ j₀ loads j = length bottoms + 1 - j
+
+loop-holds : tie.Need-loop-holds Inv-loop μ-loop
+loop-holds c = (omega arith, row-none _ _ _ _)
+
+add-loop : tie.Need-add-loop Inv-loop μ-loop
+add-loop c = omega arith
+
+write-cell-requires : tie.Need-write-cell-requires Inv-loop μ-loop
+write-cell-requires c κs =
+    let d = c .before .before .before .before .before .before .before in
+    let l = c .before .before .loop in
+    (d .pre .0, d .pre .1, omega arith, l .inv .1 .size ∙ d .pre .2)
+
+add-j : tie.Need-add-j Inv-loop μ-loop
+add-j c = omega arith
+
+loop-less : tie.Need-loop-less Inv-loop μ-loop
+loop-less c = omega arith
+
+loop-again : tie.Need-loop-again Inv-loop μ-loop
+loop-again c =
+    let l = c .before .before .before .before .before .loop in
+    (omega arith, row-more _ _ _ (l .loads) _ _ (l .j) (l .inv .1) (c .before .before .write-cell .ensures))
+
+same-length : tie.Need-same-length Inv-loop μ-loop
+same-length c = c .before .loop .inv .1 .size
+
+returns : tie.Need-returns Inv-loop μ-loop
+returns c =
+    let l = c .before .loop in
+    row-done _ _ _ (l .loads) _ (l .j) _ (c .loop-test .left) (l .inv .1)
+
+pub write-row-spec : {M : Type 1} → statement M
+write-row-spec =
+    tie.close
+    (tie.spec
+    Inv-loop
+    μ-loop
+    loop-holds
+    add-loop
+    write-cell-requires
+    add-j
+    loop-less
+    loop-again
+    same-length
+    returns)

@@ -1,0 +1,62 @@
+-- `load::loads_at` meets its contract. The loop's invariant: the loads are those of the first m spans. The measure is how many are left.
+-- Assumes nothing.
+use Prim.Native.Nat.{_≤_, _-_, _/_}
+use mathlib.Core.Path.{_≡_, refl, sym, ap, ap₂, _∙_}
+use native.Mathlib.Omega.{arith}
+use native.Mathlib.Numerals.{add-one}
+use lib.ListN.{length}
+use Rattle.load.specs.Counts.{withNet, loadsTo, loadsAt}
+use Rattle.load.proofs.Crossings.{loads-small}
+use Rattle.load.proofs.counting.loads_at.Statement.{statement}
+use Rattle.load.proofs.counting.loads_at.Tie as tie
+
+abbrev Inv-loop : tie.InvT-loop
+Inv-loop spans c l₀ m₀ n l m = (m ≤ n) × (l ≡ loadsTo spans c m)
+
+abbrev μ-loop : tie.MeasureT-loop
+μ-loop spans c l₀ m₀ n l m = n - m
+
+loop-holds : tie.Need-loop-holds Inv-loop μ-loop
+loop-holds c = (omega arith, refl)
+
+span-at-requires : tie.Need-span-at-requires Inv-loop μ-loop
+span-at-requires c κs = omega arith
+
+with-net-requires : tie.Need-with-net-requires Inv-loop μ-loop
+with-net-requires c κs = loads-small _ _ (c .before .before .loop .m) _ (c .before .before .loop .inv .1) (omega arith)
+
+add-m : tie.Need-add-m Inv-loop μ-loop
+add-m c = omega arith
+
+loop-less : tie.Need-loop-less Inv-loop μ-loop
+loop-less c = omega arith
+
+loop-again : tie.Need-loop-again Inv-loop μ-loop
+loop-again c =
+    let a = c .before .before .before .before .before .args in
+    let l = c .before .before .before .loop in (
+      omega arith,
+      c .with-net .ensures ∙ ap₂ (withNet (a .c)) (l .inv .1) (c .before .span-at .ensures) ∙ sym (ap (loadsTo (a .spans .now) (a .c)) (add-one (l .m))),
+    )
+
+returns : tie.Need-returns Inv-loop μ-loop
+unfolding loadsAt
+returns c =
+    let a = c .before .before .before .args in
+    let l = c .before .loop in
+    let all : l .m ≡ length (a .spans .now) / 5 = omega arith in
+    l .inv .1 ∙ ap (loadsTo (a .spans .now) (a .c)) all
+
+pub loads-at-spec : {M : Type 1} → statement M
+loads-at-spec =
+    tie.close
+    (tie.spec
+    Inv-loop
+    μ-loop
+    loop-holds
+    span-at-requires
+    with-net-requires
+    add-m
+    loop-less
+    loop-again
+    returns)

@@ -1,0 +1,43 @@
+-- `load::with_net` meets its contract: the three tests of the net, each counted.
+-- Assumes nothing.
+use Rattle.load.proofs.Crossings.{net-more}
+use borrow.Author.Needs.{needs}
+use Rattle.load.proofs.counting.with_net.Statement.{statement}
+use Rattle.load.proofs.counting.with_net.Tie as tie
+
+crosses-requires : tie.Need-crosses-requires
+crosses-requires c κs = search needs
+
+crosses-requires-2 : tie.Need-crosses-requires-2
+crosses-requires-2 c κs = search needs
+
+crosses-requires-3 : tie.Need-crosses-requires-3
+crosses-requires-3 c κs = search needs
+
+add-if-requires : tie.Need-add-if-requires
+add-if-requires c κs = search needs
+
+add-if-requires-2 : tie.Need-add-if-requires-2
+add-if-requires-2 c κs = search needs
+
+add-if-requires-3 : tie.Need-add-if-requires-3
+add-if-requires-3 c κs = search needs
+
+returns : tie.Need-returns
+returns c =
+    let x = c .before .before .before .before .before .crosses in
+    let y = c .before .before .before .before .crosses2 in
+    let z = c .before .before .before .crosses3 in
+    net-more _ _ _ _ _ _ _ _ _ (x .ensures) (y .ensures) (z .ensures) (c .before .before .add-if .ensures) (c .before .add-if2 .ensures) (c .add-if3 .ensures)
+
+pub with-net-spec : {M : Type 1} → statement M
+with-net-spec =
+    tie.close
+    (tie.spec
+    crosses-requires
+    crosses-requires-2
+    crosses-requires-3
+    add-if-requires
+    add-if-requires-2
+    add-if-requires-3
+    returns)

@@ -1,0 +1,70 @@
+-- `load::ends_of` meets its contract. The loop's invariant: the ends so far, with the pins that are left, make the ends. The measure is how many are left.
+-- Assumes nothing.
+use Prim.Native.Nat.{_+_, _≤_, _-_}
+use mathlib.Core.Path.{_≡_, refl, sym, ap, _∙_}
+use native.Mathlib.Omega.{arith}
+use borrow.Author.Needs.{needs}
+use lib.ListN.{length, drop}
+use Rattle.load.specs.declared.spans.Ends.{Ends}
+use Rattle.load.specs.Ends.{endsFrom, endsOf}
+use Rattle.load.proofs.Places.{ends-at, ends-done}
+use Rattle.load.proofs.spans.ends_of.Statement.{statement}
+use Rattle.load.proofs.spans.ends_of.Tie as tie
+
+abbrev Inv-loop : tie.InvT-loop
+Inv-loop ns net e₀ i₀ e i = (i ≤ length ns) × (endsFrom e net i (drop i ns) ≡ endsOf ns net)
+
+abbrev μ-loop : tie.MeasureT-loop
+μ-loop ns net e₀ i₀ e i = length ns - i
+
+loop-holds : tie.Need-loop-holds Inv-loop μ-loop
+unfolding endsOf
+loop-holds c = (omega arith, refl)
+
+mul-same : tie.Need-mul-same Inv-loop μ-loop
+mul-same c = omega arith
+
+shared-slice-read-same : tie.Need-shared-slice-read-same Inv-loop μ-loop
+shared-slice-read-same c = omega arith
+
+add-i : tie.Need-add-i Inv-loop μ-loop
+add-i c = omega arith
+
+cast-reach : tie.Need-cast-reach Inv-loop μ-loop
+cast-reach c = omega arith
+
+reach-requires : tie.Need-reach-requires Inv-loop μ-loop
+reach-requires c κs = search needs
+
+loop-less : tie.Need-loop-less Inv-loop μ-loop
+loop-less c = omega arith
+
+loop-again : tie.Need-loop-again Inv-loop μ-loop
+loop-again c =
+    let a = c .before .before .before .before .before .args in
+    let l = c .before .before .before .loop in (
+      omega arith,
+      ap (λ (e : Ends). endsFrom e (a .net) (l .i + 1) (drop (l .i + 1) (a .ns .now))) (c .reach .ensures) ∙ sym (ends-at (l .e) (a .net) (a .ns .now) (l .i) (c .before .before .loop-test .taken)) ∙ l .inv .1,
+    )
+
+returns : tie.Need-returns Inv-loop μ-loop
+returns c =
+    let a = c .before .before .before .args in
+    let l = c .before .loop in
+    sym (ends-done (l .e) (a .net) (a .ns .now) (l .i) (c .loop-test .left)) ∙ l .inv .1
+
+pub ends-of-spec : {M : Type 1} → statement M
+ends-of-spec =
+    tie.close
+    (tie.spec
+    Inv-loop
+    μ-loop
+    loop-holds
+    mul-same
+    shared-slice-read-same
+    add-i
+    cast-reach
+    reach-requires
+    loop-less
+    loop-again
+    returns)

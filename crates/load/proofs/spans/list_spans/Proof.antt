@@ -1,0 +1,72 @@
+-- `load::list_spans` meets its contract. The loop's invariant: the spans so far, with those of the nets that are left, make the list.
+-- The measure is how many nets are left.
+-- Assumes nothing.
+use Prim.Native.Nat.{_*_, _≤_, _-_}
+use mathlib.Core.Path.{_≡_, refl, _∙_}
+use mathlib.Core.List.{_++_}
+use native.Mathlib.Omega.{arith}
+use lib.ListN.{length, take, drop}
+use Rattle.channel.specs.Density.{distinct}
+use Rattle.load.specs.Ends.{spansOf}
+use Rattle.load.proofs.Listing.{put-more, put-count, put-done}
+use Rattle.load.proofs.spans.list_spans.Statement.{statement}
+use Rattle.load.proofs.spans.list_spans.Tie as tie
+
+abbrev Inv-loop : tie.InvT-loop
+Inv-loop nets p spans₀ k₀ m₀ spans k m =
+    (length spans ≡ length spans₀)
+    × (m ≤ length nets)
+    × (k ≤ m)
+    × (take (5 * k) spans ++ spansOf (take p nets) (drop p nets) (distinct (drop m nets)) ≡ spansOf (take p nets) (drop p nets) (distinct nets))
+
+abbrev μ-loop : tie.MeasureT-loop
+μ-loop nets p spans₀ k₀ m₀ spans k m = length nets - m
+
+loop-holds : tie.Need-loop-holds Inv-loop μ-loop
+loop-holds c = (refl, omega arith, omega arith, refl)
+
+list-net-requires : tie.Need-list-net-requires Inv-loop μ-loop
+list-net-requires c κs =
+    let d = c .before .before .before .before .before in
+    let l = c .before .before .loop in
+    (d .pre .0, c .before .loop-test .taken, l .inv .2, l .inv .0 ∙ d .pre .1)
+
+add-m : tie.Need-add-m Inv-loop μ-loop
+add-m c = omega arith
+
+loop-less : tie.Need-loop-less Inv-loop μ-loop
+loop-less c = omega arith
+
+loop-again : tie.Need-loop-again Inv-loop μ-loop
+loop-again c =
+    let a = c .before .before .before .before .before .before .before .before .args in
+    let l = c .before .before .before .before .before .loop in
+    let put = c .before .before .list-net .ensures in (
+      c .before .before .list-net .kept .1 .1 .1 .0 ∙ l .inv .0,
+      omega arith,
+      omega (arith, put .count, put-count (a .nets .now) (l .m)),
+      put-more _ _ (a .nets .now) (l .m) (l .spans) _ (l .k) _ _ (c .before .before .before .before .loop-test .taken) put (l .inv .3),
+    )
+
+same-length : tie.Need-same-length Inv-loop μ-loop
+same-length c = c .before .loop .inv .0
+
+returns : tie.Need-returns Inv-loop μ-loop
+returns c =
+    let a = c .before .before .before .before .args in
+    let l = c .before .loop in
+    (omega arith, put-done _ _ (a .nets .now) (l .m) _ _ (c .loop-test .left) (l .inv .3))
+
+pub list-spans-spec : {M : Type 1} → statement M
+list-spans-spec =
+    tie.close
+    (tie.spec
+    Inv-loop
+    μ-loop
+    loop-holds
+    list-net-requires
+    add-m
+    loop-less
+    loop-again
+    same-length
+    returns)

@@ -1,0 +1,61 @@
+-- The loads of one cut, as a loop over the spans counts them.
+-- Assumes nothing.
+use Prim.Native.Nat.{ℕ, zero, suc, _+_, _/_}
+use mathlib.Core.List.{List, _∷_}
+use mathlib.Core.Bool.{Bool, cond, _&&_, _||_}
+use lib.ListN.{length, getD}
+use lib.Dec.{leb, ltb, eqb}
+use Rattle.channel.specs.Word.{Letter, hasTop, hasBottom}
+use Rattle.channel.specs.Word.Letter.{top as T, bottom as B, both as TB}
+use Rattle.load.specs.declared.counting.Cut.{Cut}
+use Rattle.load.specs.declared.counting.Loads.{Loads}
+use Rattle.load.specs.declared.spans.Span.{Span}
+use Rattle.load.specs.declared.counting.Stand.{Stand}
+use Rattle.load.specs.Ends.{spanAt}
+
+-- the net at a place, from 1, of one side; 0 at place 0
+abbrev pub netAt : List ℕ → ℕ → ℕ
+netAt ns i = getD (0 ∷ ns) i 0
+
+-- one side at a column with i of its pins at or left of it, and both sides
+abbrev pub standOf : List ℕ → ℕ → Stand
+standOf ns i = record { count = i; net = netAt ns i }
+
+abbrev pub cutOf : List ℕ → List ℕ → ℕ → ℕ → Cut
+cutOf tops bottoms i j = record { top = standOf tops i; bottom = standOf bottoms j }
+
+-- at least two of three: left of the column, in it, right of it
+abbrev pub twoOf : Bool → Bool → Bool → Bool
+twoOf left here right = (left || here) && ((here || right) && (left || right))
+
+-- of one side, with a pin in the column if h: a net whose first place is `first` has a pin left of the column
+abbrev pub leftTest : Bool → ℕ → ℕ → Bool
+leftTest h first i = cond h (ltb first i) (leb first i)
+
+-- the net n stands in the column
+abbrev pub hereTest : Bool → Stand → ℕ → Bool
+hereTest h s n = h && eqb (s .net) n
+
+-- whether a net crosses the column, where it holds letter a
+abbrev pub crossesAs : Letter → Cut → Span → Bool
+crossesAs a c s =
+    twoOf (leftTest (hasTop a) (s .top .first) (c .top .count) || leftTest (hasBottom a) (s .bottom .first) (c .bottom .count))
+    (hereTest (hasTop a) (c .top) (s .net) || hereTest (hasBottom a) (c .bottom) (s .net))
+    (ltb (c .top .count) (s .top .last) || ltb (c .bottom .count) (s .bottom .last))
+
+-- the loads with one net more
+unfoldable pub withNet : Cut → Loads → Span → Loads
+withNet c l s =
+    record {
+      top = l .top + cond (crossesAs T c s) 1 0;
+      bottom = l .bottom + cond (crossesAs B c s) 1 0;
+      both = l .both + cond (crossesAs TB c s) 1 0;
+    }
+
+-- the loads over the first m spans, and over all
+abbrev pub loadsTo : List ℕ → Cut → ℕ → Loads
+loadsTo spans c zero = record { top = 0; bottom = 0; both = 0 }
+loadsTo spans c (suc m) = withNet c (loadsTo spans c m) (spanAt spans m)
+
+unfoldable pub loadsAt : List ℕ → Cut → Loads
+loadsAt spans c = loadsTo spans c (length spans / 5)

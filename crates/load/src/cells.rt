@@ -1,0 +1,81 @@
+// The table of the loads of all cuts.
+use crate::counting::Cut;
+use crate::counting::Loads;
+use crate::counting::loads_at;
+use crate::counting::stand_at;
+use crate::nets::read_nets;
+use crate::spans::list_spans;
+ghost use mathlib.Core.Path.{_≡_};
+ghost use Prim.Native.Nat.{ℕ, _+_, _/_, _≤_, _<_};
+ghost use lib.ListN.{length, take, drop, set};
+ghost use Rattle.load.specs.Cuts.{netsIn, cellAt, AllLoads, Written};
+ghost use Rattle.load.specs.Ends.{TwoSides, Listed};
+
+// Puts the loads of one cut into the table.
+fn store(loads: &mut [u8], at: usize, l: Loads)
+    requires { ⌜ at + 3 ≤ length (now loads) ⌝ }
+    ensures { λ r. ⌜ now (loads .exit) ≡ set (set (set (now (loads .entry)) at (l .top)) (at + 1) (l .bottom)) (at + 2) (l .both) ⌝ }
+{
+    loads[at] = l.top;
+    loads[at + 1] = l.bottom;
+    loads[at + 2] = l.both;
+}
+
+// Puts the loads of the cut (i, j) into the table.
+fn write_cell(tops: &[u16], bottoms: &[u16], spans: &[u16], i: usize, j: usize, loads: &mut [u8])
+    requires { ⌜ Listed (now tops) (now bottoms) (now spans) × (i ≤ length (now tops)) × (j ≤ length (now bottoms)) × (length (now loads) ≡ 12675) ⌝ }
+    ensures { λ r. ⌜ Written (now (tops .entry)) (now (bottoms .entry)) (now (loads .entry)) (now (loads .exit)) (cellAt i j) (λ (x y : ℕ). (x ≡ i) × (y ≡ j)) ⌝ }
+{
+    let top = stand_at(tops, i);
+    let bottom = stand_at(bottoms, j);
+    let l = loads_at(spans, Cut { top, bottom });
+    store(loads, 3 * (65 * i + j), l);
+}
+
+// Puts the loads of all cuts with i top pins into the table.
+fn write_row(tops: &[u16], bottoms: &[u16], spans: &[u16], i: usize, loads: &mut [u8])
+    requires { ⌜ Listed (now tops) (now bottoms) (now spans) × (i ≤ length (now tops)) × (length (now loads) ≡ 12675) ⌝ }
+    ensures { λ r. ⌜ Written (now (tops .entry)) (now (bottoms .entry)) (now (loads .entry)) (now (loads .exit)) (cellAt i 0) (λ (x y : ℕ). (x ≡ i) × (y < length (now (bottoms .entry)) + 1)) ⌝ }
+{
+    let mut j = 0;
+    while j < bottoms.len() + 1 {
+        write_cell(tops, bottoms, spans, i, j, loads);
+        j += 1;
+    }
+}
+
+// Puts the loads of all cuts into the table.
+fn write_table(tops: &[u16], bottoms: &[u16], spans: &[u16], loads: &mut [u8])
+    requires { ⌜ Listed (now tops) (now bottoms) (now spans) × (length (now loads) ≡ 12675) ⌝ }
+    ensures { λ r. ⌜ AllLoads (now (tops .entry)) (now (bottoms .entry)) (now (loads .entry)) (now (loads .exit)) ⌝ }
+{
+    let mut i = 0;
+    while i < tops.len() + 1 {
+        write_row(tops, bottoms, spans, i, loads);
+        i += 1;
+    }
+}
+
+// The table of the nets of two sides, of which the first p are the top's.
+fn tabulate(nets: &[u16], p: usize, loads: &mut [u8])
+    requires { ⌜ TwoSides (now nets) p × (length (now loads) ≡ 12675) ⌝ }
+    ensures { λ r. ⌜ AllLoads (take p (now (nets .entry))) (drop p (now (nets .entry))) (now (loads .entry)) (now (loads .exit)) ⌝ }
+{
+    let mut spans: [u16; 640] = [0; 640];
+    let k = list_spans(nets, p, &mut spans[..]);
+    let end = 5 * k;
+    write_table(&nets[..p], &nets[p..], &spans[..end], loads);
+}
+
+// The loads of all cuts of two sections, as `sheet::section` gives them, once per search.
+pub fn read_loads(top: &[u8], bottom: &[u8], loads: &mut [u8])
+    requires { ⌜ (length (now top) / 12 ≤ 64) × (length (now bottom) / 12 ≤ 64) × (length (now loads) ≡ 12675) ⌝ }
+    ensures { λ r. ⌜ AllLoads (netsIn (now (top .entry))) (netsIn (now (bottom .entry))) (now (loads .entry)) (now (loads .exit)) ⌝ }
+{
+    let mut nets: [u16; 128] = [0; 128];
+    let p = top.len() / 12;
+    let n = p + bottom.len() / 12;
+    read_nets(top, &mut nets[..], 0);
+    read_nets(bottom, &mut nets[..], p);
+    tabulate(&nets[..n], p, loads);
+}
