@@ -1,0 +1,74 @@
+-- `exhaustive::trials::cells_of` meets its contract: four factors up to 256.
+-- Assumes nothing.
+use native.Mathlib.Omega.{arith}
+use native.Mathlib.Nat.{mul-le-mul}
+use Prim.Native.Nat.{ℕ, _+_, _*_, _≤_, _<_}
+use borrow.Author.Needs.{needs}
+use Rattle.exhaustive.proofs.trials.cells_of.Statement.{statement}
+use Rattle.exhaustive.proofs.trials.cells_of.Tie as tie
+
+square : (a b : ℕ) → a < 256 → b < 256 → (a + 1) * (b + 1) ≤ 65536
+square a b h g =
+    let h' : a + 1 ≤ 256 = omega arith in
+    let g' : b + 1 ≤ 256 = omega arith in
+    mul-le-mul h' g'
+
+all : tie.Need-returns
+all c =
+    let plan = c .before .before .before .before .args .plan in
+    mul-le-mul
+    (square (plan .top) (plan .bottom) (omega arith) (omega arith))
+    (square (plan .length) (plan .length) (omega arith) (omega arith))
+
+cast-plane : tie.Need-cast-plane
+cast-plane c = search needs
+
+add-plane : tie.Need-add-plane
+add-plane c = search needs
+
+cast-plane-2 : tie.Need-cast-plane-2
+cast-plane-2 c = search needs
+
+add-plane-2 : tie.Need-add-plane-2
+add-plane-2 c = search needs
+
+mul-plane : tie.Need-mul-plane
+mul-plane c = omega (arith, square (c .before .before .args .plan .length) (c .before .before .args .plan .length) (omega arith) (omega arith))
+
+cast-result : tie.Need-cast-result
+cast-result c = search needs
+
+add-result : tie.Need-add-result
+add-result c = search needs
+
+cast-result-2 : tie.Need-cast-result-2
+cast-result-2 c = search needs
+
+add-result-2 : tie.Need-add-result-2
+add-result-2 c = search needs
+
+mul-result : tie.Need-mul-result
+mul-result c = omega (arith, square (c .before .before .before .before .args .plan .top) (c .before .before .before .before .args .plan .bottom) (omega arith) (omega arith))
+
+mul-result-2 : tie.Need-mul-result-2
+mul-result-2 c = omega (arith, all c)
+
+returns : tie.Need-returns
+returns c = all c
+
+pub cells-of-spec : {M : Type 1} → statement M
+cells-of-spec =
+    tie.close
+    (tie.spec
+    cast-plane
+    add-plane
+    cast-plane-2
+    add-plane-2
+    mul-plane
+    cast-result
+    add-result
+    cast-result-2
+    add-result-2
+    mul-result
+    mul-result-2
+    returns)

@@ -1,0 +1,237 @@
+// One sheet: the library's search against the exhaustive one.
+use crate::bytes;
+use crate::draws::draw;
+use crate::lists;
+use crate::lists::Best;
+use crate::marks;
+use crate::report;
+use crate::sheets;
+use crate::sheets::Plan;
+use search::Searched;
+ghost use Prim.Native.Nat.{_≤_};
+
+// Whether the sheet has an assignment, and whether every call did what it must.
+pub struct Trial {
+    pub found: bool,
+    pub agrees: bool,
+}
+
+// How much of the sheet, of the column buffer and of the work buffer a call is lent.
+pub struct Lent {
+    pub size: usize,
+    pub bytes: usize,
+    pub cells: usize,
+}
+
+// What a call must do: its refusal's number, 1 for all of a sheet's and 0 for none, its density, how many
+// columns it writes and how many cells it clears.
+struct Expected {
+    number: u8,
+    density: u64,
+    written: usize,
+    cleared: usize,
+}
+
+// A refusal that writes nothing.
+fn refusal(number: u8) -> Expected {
+    Expected {
+        number,
+        density: 0,
+        written: 0,
+        cleared: 0,
+    }
+}
+
+fn answer(best: Best, pins: usize, cells: usize) -> Expected {
+    Expected {
+        number: if best.found { 0 } else { 11 },
+        density: best.density as u64,
+        written: if best.found { pins } else { 0 },
+        cleared: cells,
+    }
+}
+
+pub fn number_of(r: Searched) -> u8 {
+    match r {
+        Searched::Found(_) => 0,
+        Searched::Sheet(_) => 1,
+        Searched::Columns => 9,
+        Searched::Cells => 10,
+        Searched::NoAssignment => 11,
+    }
+}
+
+pub fn density_of(r: Searched) -> u64 {
+    match r {
+        Searched::Found(d) => d as u64,
+        _ => 0,
+    }
+}
+
+// The work cells that a search needs.
+fn cells_of(plan: Plan) -> usize
+    ensures { λ r. ⌜ r ≤ 4294967296 ⌝ }
+{
+    let plane = (plan.length as usize + 1) * (plan.length as usize + 1);
+    (plan.top as usize + 1) * (plan.bottom as usize + 1) * plane
+}
+
+// Searches in the lent parts.
+pub fn run(s: &[u8], lent: Lent, columns: &mut [u8], work: &mut [u16]) -> Searched {
+    let size = lent.size;
+    let bytes = lent.bytes;
+    let cells = lent.cells;
+    if s.len() < size {
+        return Searched::Cells;
+    }
+    if columns.len() < bytes {
+        return Searched::Cells;
+    }
+    if work.len() < cells {
+        return Searched::Cells;
+    }
+    search::search(&s[..size], &mut columns[..bytes], &mut work[..cells])
+}
+
+fn agrees(
+    lent: Lent,
+    expected: Expected,
+    r: Searched,
+    list: &[u8],
+    columns: &[u8],
+    work: &[u16],
+) -> bool {
+    if number_of(r) != expected.number {
+        return false;
+    }
+    if density_of(r) != expected.density {
+        return false;
+    }
+    if !marks::bytes_left(columns, list, expected.written, lent.bytes) {
+        return false;
+    }
+    marks::cells_left(work, expected.cleared, lent.cells)
+}
+
+// Both outcomes; where they are alike, a buffer is not left as it must be.
+fn show(n: u64, lent: Lent, expected: Expected, r: Searched, list: &[u8], columns: &[u8]) {
+    report::print_sheet(n);
+    io::write_all(1, b": exhaustive ");
+    report::print_outcome(expected.number, expected.density, list, expected.written);
+    io::write_all(1, b", search ");
+    report::print_outcome(number_of(r), density_of(r), columns, lent.bytes);
+    io::write_all(1, b"\n");
+}
+
+// One call; `list` has the columns that it is to write.
+fn call_agrees(
+    n: u64,
+    lent: Lent,
+    expected: Expected,
+    s: &[u8],
+    list: &[u8],
+    columns: &mut [u8],
+    work: &mut [u16],
+    shown: bool,
+) -> bool {
+    marks::mark_bytes(columns, lent.bytes);
+    marks::mark_cells(work, lent.cells);
+    let r = run(s, lent, columns, work);
+    let good = agrees(lent, expected, r, list, columns, work);
+    if !good && shown {
+        show(n, lent, expected, r, list, columns);
+    }
+    good
+}
+
+fn less(n: usize) -> usize {
+    if n == 0 { 0 } else { n - 1 }
+}
+
+// The refusals: a sheet cut by a byte, a work buffer that is one too short, and that with a column buffer that is
+// one too short, if there are columns.
+fn refusals_agree(
+    n: u64,
+    lent: Lent,
+    s: &[u8],
+    columns: &mut [u8],
+    work: &mut [u16],
+    shown: bool,
+) -> bool {
+    if n % 8 != 0 {
+        return true;
+    }
+    let cut = Lent {
+        size: less(lent.size),
+        bytes: lent.bytes,
+        cells: lent.cells,
+    };
+    let few = Lent {
+        size: lent.size,
+        bytes: lent.bytes,
+        cells: less(lent.cells),
+    };
+    let fewer = Lent {
+        size: lent.size,
+        bytes: less(lent.bytes),
+        cells: less(lent.cells),
+    };
+    let both = if lent.bytes == 0 { 10 } else { 9 };
+    let a = call_agrees(n, cut, refusal(1), s, s, columns, work, shown);
+    let b = call_agrees(n, few, refusal(10), s, s, columns, work, shown);
+    let c = call_agrees(n, fewer, refusal(both), s, s, columns, work, shown);
+    a && b && c
+}
+
+// The answer, in buffers of the needed length or a little longer.
+fn answers_agree(
+    n: u64,
+    lent: Lent,
+    best: Best,
+    s: &[u8],
+    list: &[u8],
+    columns: &mut [u8],
+    work: &mut [u16],
+    shown: bool,
+) -> bool
+    requires { ⌜ (lent .bytes ≤ 510) × (lent .cells ≤ 4294967296) ⌝ }
+{
+    let spare = draw(n, 30, 0, 0, 4) as usize;
+    let longer = Lent {
+        size: lent.size,
+        bytes: lent.bytes + spare,
+        cells: lent.cells + spare,
+    };
+    call_agrees(
+        n,
+        longer,
+        answer(best, lent.bytes, lent.cells),
+        s,
+        list,
+        columns,
+        work,
+        shown,
+    )
+}
+
+pub fn try_sheet(n: u64, work: &mut [u16], shown: bool) -> Trial {
+    let plan = sheets::plan_of(n);
+    let mut terminals = [0u64; 32];
+    sheets::write_terminals(n, plan, &mut terminals);
+    let mut s = [0u8; 108];
+    bytes::write_sheet(plan, &terminals, &mut s);
+    let mut list = [0u8; 8];
+    let best = lists::find_best(plan, &terminals, &mut list);
+    let lent = Lent {
+        size: 12 * sheets::pins(plan) + 12,
+        bytes: sheets::pins(plan),
+        cells: cells_of(plan),
+    };
+    let mut columns = [0u8; 12];
+    let refusals = refusals_agree(n, lent, &s, &mut columns, work, shown);
+    let answers = answers_agree(n, lent, best, &s, &list, &mut columns, work, shown);
+    Trial {
+        found: best.found,
+        agrees: refusals && answers,
+    }
+}

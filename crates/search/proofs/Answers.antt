@@ -1,0 +1,144 @@
+-- Why the search keeps its promise: each way out of it, from what its calls answered.
+-- Assumes nothing.
+use Prim.Native.Nat.{ℕ, _+_, _≤_, _<_}
+use mathlib.Core.Path.{_≡_, refl, sym, _∙_, ap, ap₂}
+use mathlib.Core.List.{List, _++_}
+use native.Mathlib.Omega.{arith}
+use lib.ListN.{length, drop, replicate}
+use borrow.Author.Tests.{lt-ltb, le-ltb}
+use Rattle.channel.specs.Sheet.{Terminal, Sheet, Sound}
+use Rattle.channel.specs.Best.{Found, best}
+use Rattle.channel.specs.Best.Found.{none, found}
+use Rattle.sheet.specs.declared.Checked.{Checked}
+use Rattle.sheet.specs.declared.Checked.the-variants as checked
+use Rattle.sheet.specs.declared.Refusal.{Refusal}
+use Rattle.sheet.specs.declared.Shape.{Shape}
+use Rattle.sheet.specs.declared.Side.the-variants.{Top, Bottom}
+use Rattle.sheet.specs.Check.{checkOf}
+use Rattle.sheet.specs.Read.{readAs, sheetOf, read}
+use Rattle.sheet.specs.Read.Read.{sound}
+use Rattle.sheet.specs.Parts.{shape, shapeAs, shapeOf, sectionOf, terminalsIn}
+use Rattle.sheet.proofs.Sections.{section-terminals}
+use Rattle.sheet.proofs.Sounds.{read-sound}
+use Rattle.search.specs.declared.Searched.{Searched}
+use Rattle.search.specs.declared.Searched.the-variants as searched
+use Rattle.search.specs.declared.pass.Outcome.{Outcome}
+use Rattle.search.specs.declared.pass.Outcome.the-variants as outcome
+use Rattle.search.specs.Answer.{pinsNeeded, cellsNeeded, answerAs, answerIn, answerIf, searchedOf, withColumns, columnsIf, columnsAfter, cleared, workIf, workAfter, Searches}
+use Rattle.search.specs.Solved.{sheetIn, Asked, outcomeOf, Solved}
+
+module _ (b columns work : List ℕ) where
+  -- the buffers go by the answer
+  answered :
+      (columns' work' : List ℕ) (r : Searched) → r ≡ searchedOf b (length columns) (length work)
+      → columns' ≡ columnsIf r (sheetOf b) columns → work' ≡ workIf r (sheetOf b) work → Searches b columns work columns' work' r
+  unfolding columnsAfter workAfter
+  answered columns' work' r e c w =
+      record {
+        answer = e;
+        columns = c ∙ ap (λ (k : Searched). columnsIf k (sheetOf b) columns) e;
+        cells = w ∙ ap (λ (k : Searched). workIf k (sheetOf b) work) e;
+      }
+
+  -- 1 to 8
+  pub answers-sheet :
+      (r : Checked) (why : Refusal) → r ≡ checkOf b → r ≡ checked.Refused why → Searches b columns work columns work (searched.Sheet why)
+  unfolding searchedOf
+  answers-sheet r why e f = answered columns work _ (rw (sym e ∙ f)) refl refl
+
+  -- a sound sheet, with its shape
+  module _ (c : Checked) (n : Shape) (checks : c ≡ checkOf b) (sounds : c ≡ checked.Sound) (shapes : n ≡ shapeOf b) where
+    reads : read b ≡ sound (sheetOf b)
+    unfolding read
+    reads = ap (readAs (sheetOf b)) (sym checks ∙ sounds)
+
+    numbers : n ≡ shape (sheetOf b .columns) (length (sheetOf b .top)) (length (sheetOf b .bottom))
+    unfolding shapeOf
+    numbers = shapes ∙ ap shapeAs reads
+
+    answers : (k m : ℕ) → searchedOf b k m ≡ answerIn (sheetOf b) k m
+    unfolding searchedOf
+    answers k m = ap (λ (r : Checked). answerIf r (sheetOf b) k m) (sym checks ∙ sounds)
+
+    pins : n .pins ≡ pinsNeeded (sheetOf b)
+    pins = ap (λ (k : Shape). k .pins) numbers
+
+    cells : n .cells ≡ cellsNeeded (sheetOf b)
+    cells = ap (λ (k : Shape). k .cells) numbers
+
+    -- 9 and 10
+    pub answers-columns : length columns < n .pins → Searches b columns work columns work searched.Columns
+    unfolding answerIn
+    answers-columns h =
+        let less : length columns < pinsNeeded (sheetOf b) = rw pins at h in
+        answered columns work _ (sym (answers _ _ ∙ rw (lt-ltb _ _ less))) refl refl
+
+    pub answers-cells : n .pins ≤ length columns → length work < n .cells → Searches b columns work columns work searched.Cells
+    unfolding answerIn
+    answers-cells g h =
+        let less : length work < cellsNeeded (sheetOf b) = rw cells at h in
+        let enough : pinsNeeded (sheetOf b) ≤ length columns = rw pins at g in
+        answered columns work _ (sym (answers _ _ ∙ rw (le-ltb _ _ enough, lt-ltb _ _ less))) refl refl
+
+    -- the sections are those of the sheet
+    module _ (tops bottoms : List ℕ) (first : tops ≡ sectionOf b Top) (second : bottoms ≡ sectionOf b Bottom) where
+      same-sheet : sheetIn (n .columns) tops bottoms ≡ sheetOf b
+      same-sheet =
+          ap₂ (λ (ts bs : List Terminal). record { columns = n .columns; top = ts; bottom = bs })
+          (ap terminalsIn first ∙ section-terminals b (sheetOf b) reads Top)
+          (ap terminalsIn second ∙ section-terminals b (sheetOf b) reads Bottom)
+          ∙ ap (λ (k : ℕ). record { columns = k; top = sheetOf b .top; bottom = sheetOf b .bottom }) (ap (λ (k : Shape). k .columns) numbers)
+
+      pub solve-asked :
+          n .pins ≤ length columns → n .cells ≤ length work → Asked tops bottoms n (length columns) (length work)
+      solve-asked g h =
+          record {
+            sound = rw same-sheet (read-sound b (sheetOf b) reads);
+            numbers =
+                numbers
+                ∙ sym (ap (λ (s : Sheet). shape (s .columns) (length (s .top)) (length (s .bottom))) same-sheet);
+            pins = g;
+            cells = h;
+          }
+
+      -- the least density or 11, with the cells cleared
+      module _ (g : n .pins ≤ length columns) (h : n .cells ≤ length work) (columns' mid work' : List ℕ) (r : Outcome)
+          (solved : Solved tops bottoms n columns columns' work mid r) (clears : work' ≡ replicate (n .cells) 0 ++ drop (n .cells) mid)
+        where
+          written : columns' ≡ withColumns (best (sheetOf b)) columns
+          written = solved .written ∙ ap (λ (s : Sheet). withColumns (best s) columns) same-sheet
+
+          zeros : work' ≡ cleared (cellsNeeded (sheetOf b)) work
+          zeros =
+              clears
+              ∙ ap (λ (rest : List ℕ). replicate (n .cells) 0 ++ rest) (solved .behind)
+              ∙ ap (λ (k : ℕ). cleared k work) cells
+
+          enough : searchedOf b (length columns) (length work) ≡ answerAs (best (sheetOf b))
+          unfolding answerIn
+          enough =
+              let a : pinsNeeded (sheetOf b) ≤ length columns = rw pins at g in
+              let c : cellsNeeded (sheetOf b) ≤ length work = rw cells at h in
+              answers _ _ ∙ rw (le-ltb _ _ a, le-ltb _ _ c)
+
+          found-one : (d : ℕ) → r ≡ outcome.Least d → answerAs (best (sheetOf b)) ≡ searched.Found d
+          found-one d e = by-best (best (sheetOf b)) (sym (solved .outcome ∙ ap (λ (s : Sheet). outcomeOf (best s)) same-sheet) ∙ e)
+            where
+              by-best : (f : Found) → outcomeOf f ≡ outcome.Least d → answerAs f ≡ searched.Found d
+              by-best none q = let z : _≡_ {A = ℕ} 0 1 = cc in absurd (omega arith)
+              by-best (found k cs) q = let z : k ≡ d = cc in ap searched.Found z
+
+          found-none : r ≡ outcome.Nothing → best (sheetOf b) ≡ none
+          found-none e = by-best (best (sheetOf b)) (sym (solved .outcome ∙ ap (λ (s : Sheet). outcomeOf (best s)) same-sheet) ∙ e)
+            where
+              by-best : (f : Found) → outcomeOf f ≡ outcome.Nothing → f ≡ none
+              by-best none q = refl
+              by-best (found k cs) q = let z : _≡_ {A = ℕ} 0 1 = cc in absurd (omega arith)
+
+          pub answers-found : (d : ℕ) → r ≡ outcome.Least d → Searches b columns work columns' work' (searched.Found d)
+          answers-found d e = answered columns' work' _ (sym (enough ∙ found-one d e)) written zeros
+
+          pub answers-none : r ≡ outcome.Nothing → Searches b columns work columns' work' searched.NoAssignment
+          answers-none e =
+              answered columns' work' _ (sym (enough ∙ ap answerAs (found-none e)))
+              (written ∙ ap (λ (f : Found). withColumns f columns) (found-none e)) zeros

@@ -1,0 +1,24 @@
+-- Laws of the work cells over the passes: cleared cells, and cells that keep their number.
+-- Assumes nothing.
+use Prim.Native.Nat.{ℕ, _+_, _-_, _≤_}
+use mathlib.Core.Path.{_≡_, refl, _∙_, ap}
+use mathlib.Core.List.{List, _++_}
+use native.Mathlib.Omega.{arith}
+use lib.ListN.{length, drop, replicate, length-append, length-replicate, length-drop}
+use Rattle.table.specs.declared.Grid.{Grid}
+use Rattle.table.specs.Room.{Filled}
+use Rattle.search.specs.Walking.{Lies}
+
+pub cleared-length : (n : ℕ) (old new : List ℕ) → n ≤ length old → new ≡ replicate n 0 ++ drop n old → length new ≡ length old
+cleared-length n old new h e = ap length e ∙ simp (length-append, length-replicate, length-drop) (omega arith)
+
+pub lies-kept :
+    (old new rules : List ℕ) (g : Grid) (p q : ℕ) → length new ≡ length old → Lies old rules g p q → Lies new rules g p q
+lies-kept old new rules g p q e l =
+    record { rules = l .rules; sizes = l .sizes; rows = l .rows; tops = l .tops; bottoms = l .bottoms; room = rw e (l .room) }
+
+-- a filled table, said of itself
+pub filled-here :
+    (rules loads : List ℕ) (bound : ℕ) (g : Grid) (i j end : ℕ) (old new : List ℕ) → Filled rules loads bound g i j end old new
+    → Filled rules loads bound g i j end new new
+filled-here rules loads bound g i j end old new f = record { kept = refl; behind = refl; cells = f .cells }

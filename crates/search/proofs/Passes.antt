@@ -1,0 +1,74 @@
+-- Laws of the passes: what a pass says, and why the bisection finds the least bound.
+-- Assumes nothing.
+use Prim.Native.Nat.{ℕ, suc, _+_, _-_, _≤_, _<_}
+use mathlib.Core.Path.{_≡_, refl, sym, _∙_, ap₂}
+use mathlib.Core.List.{List}
+use mathlib.Core.Bool.{Bool, true, false, cond, _&&_, true≢false}
+use mathlib.Core.Logic.{inl}
+use native.Mathlib.Omega.{arith}
+use native.Mathlib.Nat.{le-refl}
+use lib.Dec.{leb, ltb, leb·zero}
+use Rattle.bits.specs.Bits.{bitOf, inWord}
+use Rattle.bits.proofs.Laws.{some-cong, word-cong, bit-full}
+use Rattle.table.specs.Entry.{held, cell}
+use Rattle.table.specs.Room.{Filled, meeting, baseOf}
+use Rattle.search.specs.declared.pass.Plan.{Plan}
+use Rattle.search.specs.Pass.{placeable, Rising, Least, tableEnd}
+use Rattle.search.specs.Walk.{ones}
+
+-- the question to the last plane of a filled table is whether all pins can be placed
+pub last-plane :
+    (rules loads : List ℕ) (n : Plan) (bound : ℕ) (old new : List ℕ) (mask base high : ℕ)
+    → Filled rules loads bound (n .grid) (n .p + 1) 0 (tableEnd n) old new → n .q < n .grid .across → n .grid .rows ≤ 64
+    → ((y : ℕ) → y < 64 → bitOf mask y ≡ ltb y (n .l + 1 - n .q)) → base ≡ baseOf (n .grid) (n .p) (n .q) → suc high ≡ n .grid .rows
+    → meeting new base 0 high 63 ones mask ≡ placeable rules loads n bound
+unfolding meeting placeable
+last-plane rules loads n bound old new mask base high f hq hr m eb eh =
+    rw (eb, ← eh)
+    (some-cong (suc high)
+    (λ (x : ℕ). leb 0 x && (bitOf ones (63 - x) && inWord (λ (y : ℕ). held new (baseOf (n .grid) (n .p) (n .q)) x y && bitOf mask y)))
+    (λ (x : ℕ). inWord (λ (y : ℕ). cell rules loads bound (n .p) (n .q) x y && ltb y (n .l + 1 - n .q)))
+    (λ x l.
+    rw (leb·zero x, bit-full (63 - x) (omega arith))
+    (word-cong _ _
+    (λ y hy.
+    ap₂ (λ (a b : Bool). a && b)
+    (f .cells (n .p) (n .q) x y (inl (omega arith)) hq (omega (arith, eh)) hy)
+    (m y hy)))))
+
+-- the bounds of the bisection: f holds of high, and of nothing below low
+pub record Between (f : ℕ → Bool) (low high : ℕ) : Type 0 where
+  pub order : low ≤ high
+  pub top : high ≤ 128
+  pub holds : f high ≡ true
+  pub below : (e : ℕ) → e < low → f e ≡ false
+
+pub between-start : (f : ℕ → Bool) → f 128 ≡ true → Between f 0 128
+between-start f h = record { order = omega arith; top = le-refl 128; holds = h; below = λ e l. absurd (omega arith) }
+
+-- one step: the middle becomes the upper bound where f holds of it, else what is above it the lower
+pub between-more :
+    (f : ℕ → Bool) → Rising f → (low high middle : ℕ) (yes : Bool) → low ≤ middle → middle < high → yes ≡ f middle → Between f low high
+    → Between f (cond yes low (middle + 1)) (cond yes middle high)
+between-more f rises low high middle true h g e b =
+    record { order = h; top = omega (arith, b .top); holds = sym e; below = b .below }
+between-more f rises low high middle false h g e b =
+    record {
+      order = omega arith;
+      top = b .top;
+      holds = b .holds;
+      below = λ k l. by-test k (f k) refl (omega arith);
+    }
+  where
+    by-test : (k : ℕ) (t : Bool) → f k ≡ t → k ≤ middle → f k ≡ false
+    by-test k true q l = absurd (true≢false (sym (rises k middle l q) ∙ sym e))
+    by-test k false q l = q
+
+pub between-end : (f : ℕ → Bool) (low high : ℕ) → high ≤ low → Between f low high → Least f high
+between-end f low high h b = record { holds = b .holds; smaller = λ e l. b .below e (omega (arith, b .order)) }
+
+-- what lies between falls
+pub between-falls :
+    (low high middle : ℕ) (yes : Bool) → low ≤ middle → middle < high → cond yes middle high - cond yes low (middle + 1) < high - low
+between-falls low high middle true h g = omega arith
+between-falls low high middle false h g = omega arith

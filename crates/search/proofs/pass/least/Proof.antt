@@ -1,0 +1,90 @@
+-- `search::least` meets its contract. The loop's invariant: all pins can be placed under the upper bound, and under nothing below the lower. The measure is what lies between.
+-- Assumes nothing.
+use Prim.Native.Nat.{_-_, _+_, _/_}
+use mathlib.Core.Path.{_≡_, refl, _∙_}
+use native.Mathlib.Omega.{arith}
+use lib.ListN.{length, drop}
+use borrow.Author.Needs.{needs}
+use Rattle.search.specs.Pass.{placeable, tableEnd}
+use Rattle.search.proofs.Passes.{Between, between-start, between-more, between-end, between-falls}
+use Rattle.search.proofs.Cleared.{lies-kept}
+use Rattle.search.proofs.pass.least.Statement.{statement}
+use Rattle.search.proofs.pass.least.Tie as tie
+
+abbrev Inv-loop : tie.InvT-loop
+Inv-loop work₀ rules loads plan low₀ high₀ work low high =
+    Between (placeable rules loads plan) low high × (length work ≡ length work₀) × (drop (tableEnd plan) work ≡ drop (tableEnd plan) work₀)
+
+abbrev μ-loop : tie.MeasureT-loop
+μ-loop work₀ rules loads plan low₀ high₀ work low high = high - low
+
+-- src/pass.rt:57:5
+loop-holds : tie.Need-loop-holds Inv-loop μ-loop
+loop-holds c = (between-start _ (c .before .before .before .pre .4), refl, refl)
+
+-- src/pass.rt:58:29
+sub-middle : tie.Need-sub-middle Inv-loop μ-loop
+sub-middle c = omega (arith, c .before .loop .inv .0 .order)
+
+-- src/pass.rt:58:22
+add-middle : tie.Need-add-middle Inv-loop μ-loop
+add-middle c = omega (arith, c .loop-test .taken, c .before .loop .inv .0 .top)
+
+-- src/pass.rt:59:13
+try-bound-requires : tie.Need-try-bound-requires Inv-loop μ-loop
+try-bound-requires c κs = (c .before .before .before .before .before .before .pre .0, lies-kept _ _ _ _ _ _ (c .before .before .loop .inv .1) (c .before .before .before .before .before .before .pre .1), c .before .before .before .before .before .before .pre .2, c .before .before .before .before .before .before .pre .3)
+
+-- src/pass.rt:60:9
+pick-requires : tie.Need-pick-requires Inv-loop μ-loop
+pick-requires c κs = search needs
+
+-- src/pass.rt:61:30
+add-pick : tie.Need-add-pick Inv-loop μ-loop
+add-pick c = omega (arith, c .before .before .before .before .before .loop-test .taken, c .before .before .before .before .before .before .loop .inv .0 .top)
+
+-- src/pass.rt:61:9
+pick-requires-2 : tie.Need-pick-requires-2 Inv-loop μ-loop
+pick-requires-2 c κs = search needs
+
+-- src/pass.rt:57:5
+loop-less : tie.Need-loop-less Inv-loop μ-loop
+loop-less c = rw (c .pick2 .ensures, c .before .pick .ensures) (between-falls (c .before .before .before .before .before .before .before .loop .low) (c .before .before .before .before .before .before .before .loop .high) (c .before .before .before .before .before .before .before .loop .low + (c .before .before .before .before .before .before .before .loop .high - c .before .before .before .before .before .before .before .loop .low) / 2) (c .before .before .before .before .try-bound .result) (omega (arith, c .before .before .before .before .before .before .loop-test .taken)) (omega (arith, c .before .before .before .before .before .before .loop-test .taken)))
+
+-- src/pass.rt:57:5
+loop-again : tie.Need-loop-again Inv-loop μ-loop
+loop-again c =
+    let a = c .before .before .before .before .before .before .before .before .before .before .before .args in
+    let o = c .before .before .before .before .before .before .before .loop in (
+      rw (c .pick2 .ensures, c .before .pick .ensures)
+          (between-more (placeable (a .rules .now) (a .loads .now) (a .plan)) (c .before .before .before .before .before .before .before .before .before .before .before .pre .5) (o .low) (o .high) _ _ (omega arith) (omega (arith, c .before .before .before .before .before .before .loop-test .taken)) (c .before .before .before .before .try-bound .ensures .answer) (o .inv .0)),
+      c .before .before .before .before .try-bound .ensures .table .kept ∙ o .inv .1,
+      c .before .before .before .before .try-bound .ensures .table .behind ∙ o .inv .2,
+    )
+
+-- src/pass.rt:51:1
+same-length : tie.Need-same-length Inv-loop μ-loop
+same-length c = c .before .loop .inv .1
+
+-- src/pass.rt:51:1
+returns : tie.Need-returns Inv-loop μ-loop
+returns c =
+    let o = c .before .loop in
+    record { least = between-end _ (o .low) (o .high) (c .loop-test .left) (o .inv .0); small = o .inv .0 .top; kept = o .inv .1; behind = o .inv .2 }
+
+pub least-spec : {M : Type 1} → statement M
+least-spec =
+    tie.close
+    (tie.spec
+    Inv-loop
+    μ-loop
+    loop-holds
+    sub-middle
+    add-middle
+    try-bound-requires
+    pick-requires
+    add-pick
+    pick-requires-2
+    loop-less
+    loop-again
+    same-length
+    returns)

@@ -1,0 +1,49 @@
+use borrow.Author.Needs.{needs}
+use Rattle.search.proofs.search_both.Statement.{statement}
+use Rattle.search.proofs.search_both.Tie as tie
+use Rattle.search.proofs.TwoSearches.{two-searches}
+
+-- src/lib.rt:60:9
+search-requires : tie.Need-search-requires
+search-requires c κs = search needs
+
+-- src/lib.rt:61:9
+search-requires-2 : tie.Need-search-requires-2
+search-requires-2 c κs = search needs
+
+-- src/lib.rt:57:1
+same-length : tie.Need-same-length
+same-length c = search needs
+
+-- src/lib.rt:57:1
+same-length-2 : tie.Need-same-length-2
+same-length-2 c = search needs
+
+-- src/lib.rt:57:1
+same-length-3 : tie.Need-same-length-3
+same-length-3 c = search needs
+
+-- src/lib.rt:57:1
+same-length-4 : tie.Need-same-length-4
+same-length-4 c = search needs
+
+-- src/lib.rt:57:1
+returns : tie.Need-returns
+returns c =
+    record {
+      first = c .before .before .before .before .before .before .before .before .before .before .before .search .ensures;
+      second = c .before .before .before .before .search2 .ensures;
+      kept = two-searches _ _ _ _ _ _ _ _ _ _ _ _ (c .before .before .before .before .before .before .before .before .before .before .before .search .ensures) (c .before .before .before .before .search2 .ensures);
+    }
+
+pub search-both-spec : {M : Type 1} → statement M
+search-both-spec =
+    tie.close
+    (tie.spec
+    search-requires
+    search-requires-2
+    same-length
+    same-length-2
+    same-length-3
+    same-length-4
+    returns)

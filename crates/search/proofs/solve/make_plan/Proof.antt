@@ -1,0 +1,43 @@
+-- `search::make_plan` meets its contract: no product is too large.
+-- Assumes nothing.
+use native.Mathlib.Omega.{arith}
+use Rattle.search.proofs.Solving.{plane-small, planes-small}
+use borrow.Author.Needs.{needs}
+use Rattle.search.proofs.solve.make_plan.Statement.{statement}
+use Rattle.search.proofs.solve.make_plan.Tie as tie
+
+-- src/solve.rt:32:17
+add-size : tie.Need-add-size
+add-size c = search needs
+
+-- src/solve.rt:32:27
+add-size-2 : tie.Need-add-size-2
+add-size-2 c = search needs
+
+-- src/solve.rt:32:16
+mul-size : tie.Need-mul-size
+mul-size c = omega (arith, plane-small (c .args .l) (c .pre .0))
+
+-- src/solve.rt:34:15
+rows-of-requires : tie.Need-rows-of-requires
+rows-of-requires c κs = search needs
+
+-- src/solve.rt:35:17
+add-t7 : tie.Need-add-t7
+add-t7 c = search needs
+
+-- src/solve.rt:37:18
+add-t8 : tie.Need-add-t8
+add-t8 c = search needs
+
+-- src/solve.rt:37:17
+mul-t9 : tie.Need-mul-t9
+mul-t9 c = omega (arith, planes-small (c .before .args .l) (c .before .args .q) (c .before .pre .0) (c .before .pre .2))
+
+-- src/solve.rt:28:1
+returns : tie.Need-returns
+returns c = rw (c .rows-of .ensures)
+
+pub make-plan-spec : {M : Type 1} → statement M
+make-plan-spec =
+    tie.close (tie.spec add-size add-size-2 mul-size rows-of-requires add-t7 add-t8 mul-t9 returns)

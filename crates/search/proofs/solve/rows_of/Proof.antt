@@ -1,0 +1,25 @@
+-- `search::rows_of` meets its contract: the test decides.
+-- Assumes nothing.
+use borrow.Author.Tests.{eq-eqb, ne-eqb}
+use borrow.Author.Needs.{needs}
+use Rattle.search.proofs.solve.rows_of.Statement.{statement}
+use Rattle.search.proofs.solve.rows_of.Tie as tie
+
+-- src/solve.rt:22:9
+returns : tie.Need-returns
+returns c = rw (eq-eqb _ _ (c .if1 .taken))
+
+-- src/solve.rt:24:5
+sub-result : tie.Need-sub-result
+sub-result c = search needs
+
+-- src/solve.rt:24:5
+add-result : tie.Need-add-result
+add-result c = search needs
+
+-- src/solve.rt:17:1
+returns-2 : tie.Need-returns-2
+returns-2 c = rw (ne-eqb _ _ (c .if1 .left))
+
+pub rows-of-spec : {M : Type 1} → statement M
+rows-of-spec = tie.close (tie.spec returns sub-result add-result returns-2)

@@ -1,0 +1,98 @@
+-- `search::solve` meets its contract: the rules and loads are those of the sections, and what the passes come to is the best assignment.
+-- Assumes nothing.
+use mathlib.Core.Path.{refl, _∙_}
+use mathlib.Core.Logic.{inl, inr}
+use native.Mathlib.Omega.{arith}
+use lib.ListN.{length}
+use borrow.Author.Needs.{needs}
+use Rattle.sheet.specs.Parts.{terminalsIn}
+use Rattle.search.proofs.Reading.{rules-kept}
+use Rattle.search.proofs.Solving.{loads-sheet, section-counts, crowded-solved, place-asked, placed-solved}
+use Rattle.search.proofs.solve.solve.Statement.{statement}
+use Rattle.search.proofs.solve.solve.Tie as tie
+
+-- src/solve.rt:51:9
+returns : tie.Need-returns
+returns c = crowded-solved (c .before .before .before .before .before .args .top .now) (c .before .before .before .before .before .args .bottom .now) (c .before .before .before .before .before .args .shape) (length (c .before .before .before .before .before .args .columns .now)) (length (c .before .before .before .before .before .args .work .now)) (c .before .before .before .before .before .pre) _ _ (inl (c .if1 .taken))
+
+-- src/solve.rt:54:9
+returns-2 : tie.Need-returns-2
+returns-2 c = crowded-solved (c .before .before .before .before .before .before .args .top .now) (c .before .before .before .before .before .before .args .bottom .now) (c .before .before .before .before .before .before .args .shape) (length (c .before .before .before .before .before .before .args .columns .now)) (length (c .before .before .before .before .before .before .args .work .now)) (c .before .before .before .before .before .before .pre) _ _ (inr (c .if2 .taken))
+
+-- src/solve.rt:56:9
+make-plan-requires : tie.Need-make-plan-requires
+make-plan-requires c κs = search needs
+
+-- src/solve.rt:58:21
+slice-aggregate-read-rules : tie.Need-slice-aggregate-read-rules
+slice-aggregate-read-rules c = search needs
+
+-- src/solve.rt:58:5
+read-rules-requires : tie.Need-read-rules-requires
+read-rules-requires c κs = (search needs, omega arith, section-counts (c .before .before .before .before .before .before .before .before .args .top .now) (c .before .before .before .before .before .before .before .before .args .bottom .now) (c .before .before .before .before .before .before .before .before .args .shape) (length (c .before .before .before .before .before .before .before .before .args .columns .now)) (length (c .before .before .before .before .before .before .before .before .args .work .now)) (c .before .before .before .before .before .before .before .before .pre) .0)
+
+-- src/solve.rt:59:24
+slice-aggregate-read-rules-2 : tie.Need-slice-aggregate-read-rules-2
+slice-aggregate-read-rules-2 c = search needs
+
+-- src/solve.rt:59:5
+read-rules-requires-2 : tie.Need-read-rules-requires-2
+read-rules-requires-2 c κs = (c .before .before .read-rules .ensures .kept ∙ refl, omega arith, section-counts (c .before .before .before .before .before .before .before .before .before .before .before .args .top .now) (c .before .before .before .before .before .before .before .before .before .before .before .args .bottom .now) (c .before .before .before .before .before .before .before .before .before .before .before .args .shape) (length (c .before .before .before .before .before .before .before .before .before .before .before .args .columns .now)) (length (c .before .before .before .before .before .before .before .before .before .before .before .args .work .now)) (c .before .before .before .before .before .before .before .before .before .before .before .pre) .1)
+
+-- src/solve.rt:61:35
+slice-aggregate-read-loads : tie.Need-slice-aggregate-read-loads
+slice-aggregate-read-loads c = search needs
+
+-- src/solve.rt:61:5
+read-loads-requires : tie.Need-read-loads-requires
+read-loads-requires c κs = (section-counts (c .before .before .before .before .before .before .before .before .before .before .before .before .before .before .args .top .now) (c .before .before .before .before .before .before .before .before .before .before .before .before .before .before .args .bottom .now) (c .before .before .before .before .before .before .before .before .before .before .before .before .before .before .args .shape) (length (c .before .before .before .before .before .before .before .before .before .before .before .before .before .before .args .columns .now)) (length (c .before .before .before .before .before .before .before .before .before .before .before .before .before .before .args .work .now)) (c .before .before .before .before .before .before .before .before .before .before .before .before .before .before .pre) .0, section-counts (c .before .before .before .before .before .before .before .before .before .before .before .before .before .before .args .top .now) (c .before .before .before .before .before .before .before .before .before .before .before .before .before .before .args .bottom .now) (c .before .before .before .before .before .before .before .before .before .before .before .before .before .before .args .shape) (length (c .before .before .before .before .before .before .before .before .before .before .before .before .before .before .args .columns .now)) (length (c .before .before .before .before .before .before .before .before .before .before .before .before .before .before .args .work .now)) (c .before .before .before .before .before .before .before .before .before .before .before .before .before .before .pre) .1, refl)
+
+-- src/solve.rt:62:17
+slice-aggregate-place : tie.Need-slice-aggregate-place
+slice-aggregate-place c = search needs
+
+-- src/solve.rt:62:25
+slice-aggregate-place-2 : tie.Need-slice-aggregate-place-2
+slice-aggregate-place-2 c = search needs
+
+-- src/solve.rt:62:5
+place-requires : tie.Need-place-requires
+place-requires c κs = place-asked (c .before .before .before .before .before .before .before .before .before .before .before .before .before .before .before .before .before .before .before .before .args .top .now) (c .before .before .before .before .before .before .before .before .before .before .before .before .before .before .before .before .before .before .before .before .args .bottom .now) (c .before .before .before .before .before .before .before .before .before .before .before .before .before .before .before .before .before .before .before .before .args .shape) (c .before .before .before .before .before .before .before .before .before .before .before .before .before .before .before .before .before .before .before .before .args .columns .now) (c .before .before .before .before .before .before .before .before .before .before .before .before .before .before .before .before .before .before .before .before .args .work .now) (c .before .before .before .before .before .before .before .before .before .before .before .before .before .before .before .before .before .before .before .before .pre) (c .before .before .before .before .before .before .before .before .before .before .before .before .before .before .before .if1 .left) (c .before .before .before .before .before .before .before .before .before .before .before .before .before .before .if2 .left) _ _ (c .before .before .before .before .before .before .before .before .before .before .before .before .before .make-plan .result) (c .before .before .before .before .before .before .before .before .before .before .before .before .before .make-plan .ensures)
+    (rules-kept 0 1 (terminalsIn (c .before .before .before .before .before .before .before .before .before .before .before .before .before .before .before .before .before .before .before .before .args .top .now)) (terminalsIn (c .before .before .before .before .before .before .before .before .before .before .before .before .before .before .before .before .before .before .before .before .args .bottom .now)) _ _ (omega arith) (c .before .before .before .before .before .before .before .before .before .before .before .before .before .before .before .before .before .before .before .before .pre .sound .counts .0) (c .before .before .before .before .before .before .before .before .before .before .before .read-rules .ensures .rules) (c .before .before .before .before .before .before .before .before .read-rules2 .ensures))
+    (c .before .before .before .before .before .before .before .before .read-rules2 .ensures .rules)
+    (loads-sheet (c .before .before .before .before .before .before .before .before .before .before .before .before .before .before .before .before .before .before .before .before .args .shape .columns) (c .before .before .before .before .before .before .before .before .before .before .before .before .before .before .before .before .before .before .before .before .args .top .now) (c .before .before .before .before .before .before .before .before .before .before .before .before .before .before .before .before .before .before .before .before .args .bottom .now) _ _ (c .before .before .before .before .before .read-loads .ensures)) (c .before .before .before .before .before .before .before .before .read-rules2 .ensures .kept ∙ c .before .before .before .before .before .before .before .before .before .before .before .read-rules .ensures .kept) (c .before .before .before .before .before .read-loads .ensures .size)
+
+-- src/solve.rt:43:1
+same-length : tie.Need-same-length
+same-length c = search needs
+
+-- src/solve.rt:43:1
+same-length-2 : tie.Need-same-length-2
+same-length-2 c = search needs
+
+-- src/solve.rt:43:1
+returns-3 : tie.Need-returns-3
+returns-3 c = placed-solved (c .before .before .before .before .before .before .before .before .before .before .before .before .before .before .before .before .before .before .before .before .before .before .before .before .before .args .top .now) (c .before .before .before .before .before .before .before .before .before .before .before .before .before .before .before .before .before .before .before .before .before .before .before .before .before .args .bottom .now) (c .before .before .before .before .before .before .before .before .before .before .before .before .before .before .before .before .before .before .before .before .before .before .before .before .before .args .shape) (c .before .before .before .before .before .before .before .before .before .before .before .before .before .before .before .before .before .before .before .before .before .before .before .before .before .args .columns .now) (c .before .before .before .before .before .before .before .before .before .before .before .before .before .before .before .before .before .before .before .before .before .before .before .before .before .args .work .now) (c .before .before .before .before .before .before .before .before .before .before .before .before .before .before .before .before .before .before .before .before .before .before .before .before .before .pre) (c .before .before .before .before .before .before .before .before .before .before .before .before .before .before .before .before .before .before .before .before .if1 .left) (c .before .before .before .before .before .before .before .before .before .before .before .before .before .before .before .before .before .before .before .if2 .left) _ _ (c .before .before .before .before .before .before .before .before .before .before .before .before .before .before .before .before .before .before .make-plan .result) (c .before .before .before .before .before .before .before .before .before .before .before .before .before .before .before .before .before .before .make-plan .ensures)
+    (rules-kept 0 1 (terminalsIn (c .before .before .before .before .before .before .before .before .before .before .before .before .before .before .before .before .before .before .before .before .before .before .before .before .before .args .top .now)) (terminalsIn (c .before .before .before .before .before .before .before .before .before .before .before .before .before .before .before .before .before .before .before .before .before .before .before .before .before .args .bottom .now)) _ _ (omega arith) (c .before .before .before .before .before .before .before .before .before .before .before .before .before .before .before .before .before .before .before .before .before .before .before .before .before .pre .sound .counts .0) (c .before .before .before .before .before .before .before .before .before .before .before .before .before .before .before .before .read-rules .ensures .rules) (c .before .before .before .before .before .before .before .before .before .before .before .before .before .read-rules2 .ensures))
+    (c .before .before .before .before .before .before .before .before .before .before .before .before .before .read-rules2 .ensures .rules)
+    (loads-sheet (c .before .before .before .before .before .before .before .before .before .before .before .before .before .before .before .before .before .before .before .before .before .before .before .before .before .args .shape .columns) (c .before .before .before .before .before .before .before .before .before .before .before .before .before .before .before .before .before .before .before .before .before .before .before .before .before .args .top .now) (c .before .before .before .before .before .before .before .before .before .before .before .before .before .before .before .before .before .before .before .before .before .before .before .before .before .args .bottom .now) _ _ (c .before .before .before .before .before .before .before .before .before .before .read-loads .ensures)) _ _ _ (c .before .before .before .before .place .ensures)
+
+pub solve-spec : {M : Type 1} → statement M
+solve-spec =
+    tie.close
+    (tie.spec
+    returns
+    returns-2
+    make-plan-requires
+    slice-aggregate-read-rules
+    read-rules-requires
+    slice-aggregate-read-rules-2
+    read-rules-requires-2
+    slice-aggregate-read-loads
+    read-loads-requires
+    slice-aggregate-place
+    slice-aggregate-place-2
+    place-requires
+    same-length
+    same-length-2
+    returns-3)

@@ -1,0 +1,72 @@
+-- `search::bottom_fits` meets its contract: the question to the table is that of the contract.
+-- Assumes nothing.
+use Prim.Native.Nat.{ℕ, _-_}
+use mathlib.Core.Path.{_∙_, sym, ap, ap₂}
+use native.Mathlib.Omega.{arith}
+use lib.Dec.{eqb}
+use Rattle.bits.specs.Bits.{bitOf}
+use Rattle.search.proofs.Choices.{stands-high, left-same, no-pin-below, no-room-below, far-below, pin-below}
+use borrow.Author.Needs.{needs}
+use Rattle.search.proofs.walk.bottom_fits.Statement.{statement}
+use Rattle.search.proofs.walk.bottom_fits.Tie as tie
+
+-- src/walk.rt:118:9
+returns : tie.Need-returns
+returns c = no-pin-below (c .before .before .before .args .work .now) (c .before .before .before .args .rules .now) (c .before .before .before .args .grid) (c .before .before .before .args .p) (c .before .before .before .args .q) (c .before .before .before .args .m) (c .if1 .taken)
+
+-- src/walk.rt:121:9
+returns-2 : tie.Need-returns-2
+returns-2 c = no-room-below (c .before .before .before .before .args .work .now) (c .before .before .before .before .args .rules .now) (c .before .before .before .before .args .grid) (c .before .before .before .before .args .p) (c .before .before .before .before .args .q) (c .before .before .before .before .args .m) (c .if2 .taken)
+
+-- src/walk.rt:123:12
+steps-to-requires : tie.Need-steps-to-requires
+steps-to-requires c κs = search needs
+
+-- src/walk.rt:123:38
+stands-at-requires : tie.Need-stands-at-requires
+stands-at-requires c κs = (c .before .before .before .before .before .pre .1 .j, λ h. omega (arith, c .before .before .before .before .before .pre .1 .bottom h, c .before .if2 .left))
+
+-- src/walk.rt:123:38
+sub-bit : tie.Need-sub-bit
+sub-bit c =
+    let a = c .before .before .before .before .before .before .args in
+    rw (c .stands-at .ensures)
+    (stands-high (a .m .j) (a .q) (a .m .bottom) (a .m .c - a .m .j) (λ h. omega (arith, c .before .before .before .before .before .before .pre .1 .bottom h, c .before .before .if2 .left)) (c .before .before .before .before .before .before .pre .1 .j) (omega (arith, c .before .before .before .if1 .left, c .before .before .before .before .before .before .pre .1 .c)))
+
+-- src/walk.rt:123:8
+bit-requires : tie.Need-bit-requires
+bit-requires c κs = search needs
+
+-- src/walk.rt:124:55
+single-requires : tie.Need-single-requires
+single-requires c κs = search needs
+
+-- src/walk.rt:124:9
+empty-fits-requires : tie.Need-empty-fits-requires
+empty-fits-requires c κs = search needs
+
+-- src/walk.rt:124:9
+returns-3 : tie.Need-returns-3
+returns-3 c =
+    let a = c .before .before .before .before .before .before .before .before .before .before .args in
+    pin-below (c .before .before .before .before .before .before .before .before .before .before .args .work .now) (c .before .before .before .before .before .before .before .before .before .before .args .rules .now) (c .before .before .before .before .before .before .before .before .before .before .args .grid) (c .before .before .before .before .before .before .before .before .before .before .args .p) (c .before .before .before .before .before .before .before .before .before .before .args .q) (c .before .before .before .before .before .before .before .before .before .before .args .m) _ (c .before .before .before .before .before .before .before .if1 .left) (c .before .before .before .before .before .before .if2 .left) (ap₂ bitOf (sym (c .before .before .before .before .before .steps-to .ensures)) (ap (λ (n : ℕ). n - (c .before .before .before .before .before .before .before .before .before .before .args .m .c - c .before .before .before .before .before .before .before .before .before .before .args .m .j)) (sym (c .before .before .before .before .stands-at .ensures))) ∙ sym (c .before .before .before .bit .ensures) ∙ c .before .before .if3 .taken)
+    (c .empty-fits .ensures ∙ left-same (a .work .now) (a .rules .now) (a .grid) (a .p) (a .m) _ (λ (y : ℕ). eqb y (a .m .c - a .m .j)) (c .before .single .ensures))
+
+-- src/walk.rt:111:1
+returns-4 : tie.Need-returns-4
+returns-4 c = far-below (c .before .before .before .before .before .before .before .before .args .work .now) (c .before .before .before .before .before .before .before .before .args .rules .now) (c .before .before .before .before .before .before .before .before .args .grid) (c .before .before .before .before .before .before .before .before .args .p) (c .before .before .before .before .before .before .before .before .args .q) (c .before .before .before .before .before .before .before .before .args .m) (ap₂ bitOf (sym (c .before .before .before .steps-to .ensures)) (ap (λ (n : ℕ). n - (c .before .before .before .before .before .before .before .before .args .m .c - c .before .before .before .before .before .before .before .before .args .m .j)) (sym (c .before .before .stands-at .ensures))) ∙ sym (c .before .bit .ensures) ∙ c .if3 .left)
+
+pub bottom-fits-spec : {M : Type 1} → statement M
+bottom-fits-spec =
+    tie.close
+    (tie.spec
+    returns
+    returns-2
+    steps-to-requires
+    stands-at-requires
+    sub-bit
+    bit-requires
+    single-requires
+    empty-fits-requires
+    returns-3
+    returns-4)

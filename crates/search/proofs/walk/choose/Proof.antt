@@ -1,0 +1,53 @@
+-- `search::choose` meets its contract: the first of the three that fits, else both.
+-- Assumes nothing.
+use mathlib.Core.Path.{_∙_, sym}
+use Rattle.search.specs.Walk.{lefts}
+use Rattle.search.proofs.Choices.{left-same, here-same, chose-empty, chose-top, chose-other}
+use borrow.Author.Needs.{needs}
+use Rattle.search.proofs.walk.choose.Statement.{statement}
+use Rattle.search.proofs.walk.choose.Tie as tie
+
+-- src/walk.rt:135:9
+left-numbers-requires : tie.Need-left-numbers-requires
+left-numbers-requires c κs = search needs
+
+-- src/walk.rt:136:8
+empty-fits-requires : tie.Need-empty-fits-requires
+empty-fits-requires c κs = search needs
+
+-- src/walk.rt:137:9
+returns : tie.Need-returns
+returns c = chose-empty (c .before .before .before .before .before .args .work .now) (c .before .before .before .before .before .args .rules .now) (c .before .before .before .before .before .args .grid) (c .before .before .before .before .before .args .p) (c .before .before .before .before .before .args .q) (c .before .before .before .before .before .args .m) (sym (c .before .empty-fits .ensures ∙ left-same (c .before .before .before .before .before .args .work .now) (c .before .before .before .before .before .args .rules .now) (c .before .before .before .before .before .args .grid) (c .before .before .before .before .before .args .p) (c .before .before .before .before .before .args .m) _ (lefts (c .before .before .before .before .before .args .rules .now) (c .before .before .before .before .before .args .q) (c .before .before .before .before .before .args .m)) (c .before .before .left-numbers .ensures)) ∙ c .if1 .taken)
+
+-- src/walk.rt:139:8
+top-fits-requires : tie.Need-top-fits-requires
+top-fits-requires c κs = search needs
+
+-- src/walk.rt:140:9
+returns-2 : tie.Need-returns-2
+returns-2 c = chose-top (c .before .before .before .before .before .before .before .args .work .now) (c .before .before .before .before .before .before .before .args .rules .now) (c .before .before .before .before .before .before .before .args .grid) (c .before .before .before .before .before .before .before .args .p) (c .before .before .before .before .before .before .before .args .q) (c .before .before .before .before .before .before .before .args .m) (sym (c .before .before .before .empty-fits .ensures ∙ left-same (c .before .before .before .before .before .before .before .args .work .now) (c .before .before .before .before .before .before .before .args .rules .now) (c .before .before .before .before .before .before .before .args .grid) (c .before .before .before .before .before .before .before .args .p) (c .before .before .before .before .before .before .before .args .m) _ (lefts (c .before .before .before .before .before .before .before .args .rules .now) (c .before .before .before .before .before .before .before .args .q) (c .before .before .before .before .before .before .before .args .m)) (c .before .before .before .before .left-numbers .ensures)) ∙ c .before .before .if1 .left) (sym (c .before .top-fits .ensures ∙ here-same (c .before .before .before .before .before .before .before .args .work .now) (c .before .before .before .before .before .before .before .args .rules .now) (c .before .before .before .before .before .before .before .args .grid) (c .before .before .before .before .before .before .before .args .p) (c .before .before .before .before .before .before .before .args .m) _ (lefts (c .before .before .before .before .before .before .before .args .rules .now) (c .before .before .before .before .before .before .before .args .q) (c .before .before .before .before .before .before .before .args .m)) (c .before .before .before .before .left-numbers .ensures)) ∙ c .if2 .taken)
+
+-- src/walk.rt:142:8
+bottom-fits-requires : tie.Need-bottom-fits-requires
+bottom-fits-requires c κs = search needs
+
+-- src/walk.rt:143:9
+returns-3 : tie.Need-returns-3
+returns-3 c = chose-other (c .before .before .before .before .before .before .before .before .before .args .work .now) (c .before .before .before .before .before .before .before .before .before .args .rules .now) (c .before .before .before .before .before .before .before .before .before .args .grid) (c .before .before .before .before .before .before .before .before .before .args .p) (c .before .before .before .before .before .before .before .before .before .args .q) (c .before .before .before .before .before .before .before .before .before .args .m) _ (sym (c .before .before .before .before .before .empty-fits .ensures ∙ left-same (c .before .before .before .before .before .before .before .before .before .args .work .now) (c .before .before .before .before .before .before .before .before .before .args .rules .now) (c .before .before .before .before .before .before .before .before .before .args .grid) (c .before .before .before .before .before .before .before .before .before .args .p) (c .before .before .before .before .before .before .before .before .before .args .m) _ (lefts (c .before .before .before .before .before .before .before .before .before .args .rules .now) (c .before .before .before .before .before .before .before .before .before .args .q) (c .before .before .before .before .before .before .before .before .before .args .m)) (c .before .before .before .before .before .before .left-numbers .ensures)) ∙ c .before .before .before .before .if1 .left) (sym (c .before .before .before .top-fits .ensures ∙ here-same (c .before .before .before .before .before .before .before .before .before .args .work .now) (c .before .before .before .before .before .before .before .before .before .args .rules .now) (c .before .before .before .before .before .before .before .before .before .args .grid) (c .before .before .before .before .before .before .before .before .before .args .p) (c .before .before .before .before .before .before .before .before .before .args .m) _ (lefts (c .before .before .before .before .before .before .before .before .before .args .rules .now) (c .before .before .before .before .before .before .before .before .before .args .q) (c .before .before .before .before .before .before .before .before .before .args .m)) (c .before .before .before .before .before .before .left-numbers .ensures)) ∙ c .before .before .if2 .left) (sym (c .before .bottom-fits .ensures) ∙ c .if3 .taken)
+
+-- src/walk.rt:131:1
+returns-4 : tie.Need-returns-4
+returns-4 c = chose-other (c .before .before .before .before .before .before .before .before .before .args .work .now) (c .before .before .before .before .before .before .before .before .before .args .rules .now) (c .before .before .before .before .before .before .before .before .before .args .grid) (c .before .before .before .before .before .before .before .before .before .args .p) (c .before .before .before .before .before .before .before .before .before .args .q) (c .before .before .before .before .before .before .before .before .before .args .m) _ (sym (c .before .before .before .before .before .empty-fits .ensures ∙ left-same (c .before .before .before .before .before .before .before .before .before .args .work .now) (c .before .before .before .before .before .before .before .before .before .args .rules .now) (c .before .before .before .before .before .before .before .before .before .args .grid) (c .before .before .before .before .before .before .before .before .before .args .p) (c .before .before .before .before .before .before .before .before .before .args .m) _ (lefts (c .before .before .before .before .before .before .before .before .before .args .rules .now) (c .before .before .before .before .before .before .before .before .before .args .q) (c .before .before .before .before .before .before .before .before .before .args .m)) (c .before .before .before .before .before .before .left-numbers .ensures)) ∙ c .before .before .before .before .if1 .left) (sym (c .before .before .before .top-fits .ensures ∙ here-same (c .before .before .before .before .before .before .before .before .before .args .work .now) (c .before .before .before .before .before .before .before .before .before .args .rules .now) (c .before .before .before .before .before .before .before .before .before .args .grid) (c .before .before .before .before .before .before .before .before .before .args .p) (c .before .before .before .before .before .before .before .before .before .args .m) _ (lefts (c .before .before .before .before .before .before .before .before .before .args .rules .now) (c .before .before .before .before .before .before .before .before .before .args .q) (c .before .before .before .before .before .before .before .before .before .args .m)) (c .before .before .before .before .before .before .left-numbers .ensures)) ∙ c .before .before .if2 .left) (sym (c .before .bottom-fits .ensures) ∙ c .if3 .left)
+
+pub choose-spec : {M : Type 1} → statement M
+choose-spec =
+    tie.close
+    (tie.spec
+    left-numbers-requires
+    empty-fits-requires
+    returns
+    top-fits-requires
+    returns-2
+    bottom-fits-requires
+    returns-3
+    returns-4)

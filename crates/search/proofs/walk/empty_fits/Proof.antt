@@ -1,0 +1,72 @@
+-- `search::empty_fits` meets its contract: the question to the table is that of the contract.
+-- Assumes nothing.
+use Prim.Native.Nat.{_≤_, _-_}
+use mathlib.Core.Path.{_∙_, refl}
+use native.Mathlib.Omega.{arith}
+use Rattle.search.proofs.Choices.{base-room, stands-high, none-left, rows-left}
+use borrow.Author.Needs.{needs}
+use Rattle.search.proofs.walk.empty_fits.Statement.{statement}
+use Rattle.search.proofs.walk.empty_fits.Tie as tie
+
+-- src/walk.rt:77:16
+sub-left : tie.Need-sub-left
+sub-left c = search needs
+
+-- src/walk.rt:79:9
+returns : tie.Need-returns
+returns c = none-left (c .before .before .before .before .args .work .now) (c .before .before .before .before .args .rules .now) (c .before .before .before .before .args .grid) (c .before .before .before .before .args .p) (c .before .before .before .before .args .m) (c .before .before .before .before .args .lefts) (c .if1 .taken)
+
+-- src/walk.rt:81:16
+mul-base : tie.Need-mul-base
+mul-base c = omega (arith, base-room (c .before .before .before .before .before .args .work .now) (c .before .before .before .before .before .args .rules .now) (c .before .before .before .before .before .args .grid) (c .before .before .before .before .before .args .p) (c .before .before .before .before .before .args .q) (c .before .before .before .before .before .pre .0) (c .before .before .before .before .before .args .m .i) (c .before .before .before .before .before .args .m .j) (c .before .before .before .before .before .pre .1 .i) (c .before .before .before .before .before .pre .1 .j))
+
+-- src/walk.rt:81:34
+mul-base-2 : tie.Need-mul-base-2
+mul-base-2 c = omega (arith, base-room (c .before .before .before .before .before .before .before .args .work .now) (c .before .before .before .before .before .before .before .args .rules .now) (c .before .before .before .before .before .before .before .args .grid) (c .before .before .before .before .before .before .before .args .p) (c .before .before .before .before .before .before .before .args .q) (c .before .before .before .before .before .before .before .pre .0) (c .before .before .before .before .before .before .before .args .m .i) (c .before .before .before .before .before .before .before .args .m .j) (c .before .before .before .before .before .before .before .pre .1 .i) (c .before .before .before .before .before .before .before .pre .1 .j))
+
+-- src/walk.rt:81:16
+add-base : tie.Need-add-base
+add-base c = omega (arith, base-room (c .before .before .before .before .before .before .before .args .work .now) (c .before .before .before .before .before .before .before .args .rules .now) (c .before .before .before .before .before .before .before .args .grid) (c .before .before .before .before .before .before .before .args .p) (c .before .before .before .before .before .before .before .args .q) (c .before .before .before .before .before .before .before .pre .0) (c .before .before .before .before .before .before .before .args .m .i) (c .before .before .before .before .before .before .before .args .m .j) (c .before .before .before .before .before .before .before .pre .1 .i) (c .before .before .before .before .before .before .before .pre .1 .j))
+
+-- src/walk.rt:82:9
+stands-at-requires : tie.Need-stands-at-requires
+stands-at-requires c κs = (c .before .before .before .before .before .before .before .pre .1 .i, λ h. omega (arith, c .before .before .before .before .before .before .before .pre .1 .top h, c .before .before .before .if1 .left, c .before .before .before .before .before .before .before .pre .2))
+
+-- src/walk.rt:83:9
+steps-to-requires : tie.Need-steps-to-requires
+steps-to-requires c κs = search needs
+
+-- src/walk.rt:84:26
+last-row-requires : tie.Need-last-row-requires
+last-row-requires c κs = search needs
+
+-- src/walk.rt:84:5
+meets-requires : tie.Need-meets-requires
+meets-requires c κs =
+    let a = c .before .before .before .before .before .before .before .before .before .before .args in
+    let high = c .last-row .result in
+    let below : high ≤ a .m .c - 1 - a .m .i = omega (arith, c .last-row .ensures) in (
+      omega (arith, base-room (c .before .before .before .before .before .before .before .before .before .before .args .work .now) (c .before .before .before .before .before .before .before .before .before .before .args .rules .now) (c .before .before .before .before .before .before .before .before .before .before .args .grid) (c .before .before .before .before .before .before .before .before .before .before .args .p) (c .before .before .before .before .before .before .before .before .before .before .args .q) (c .before .before .before .before .before .before .before .before .before .before .pre .0) (c .before .before .before .before .before .before .before .before .before .before .args .m .i) (c .before .before .before .before .before .before .before .before .before .before .args .m .j) (c .before .before .before .before .before .before .before .before .before .before .pre .1 .i) (c .before .before .before .before .before .before .before .before .before .before .pre .1 .j), c .last-row .ensures, c .before .before .before .before .before .before .before .before .before .before .pre .0 .sizes .rows .0, c .before .before .before .before .before .before .before .before .before .before .pre .0 .rows),
+      omega arith,
+      rw (c .before .before .stands-at .ensures)
+          (stands-high (a .m .i) (a .p) (a .m .top) high (λ h. omega (arith, below, c .before .before .before .before .before .before .before .before .before .before .pre .1 .top h, c .before .before .before .before .before .before .if1 .left, c .before .before .before .before .before .before .before .before .before .before .pre .2)) (c .before .before .before .before .before .before .before .before .before .before .pre .1 .i) (omega (arith, below, c .before .before .before .before .before .before .before .before .before .before .pre .1 .c))),
+    )
+
+-- src/walk.rt:72:1
+returns-2 : tie.Need-returns-2
+returns-2 c = c .meets .ensures ∙ rows-left (c .before .before .before .before .before .before .before .before .before .before .before .args .work .now) (c .before .before .before .before .before .before .before .before .before .before .before .args .rules .now) (c .before .before .before .before .before .before .before .before .before .before .before .args .grid) (c .before .before .before .before .before .before .before .before .before .before .before .args .p) (c .before .before .before .before .before .before .before .before .before .before .before .args .m) (c .before .before .before .before .before .before .before .before .before .before .before .args .lefts) _ _ _ _ (c .before .before .before .before .before .before .before .if1 .left) refl (c .before .last-row .ensures) (c .before .before .before .stands-at .ensures) (c .before .before .steps-to .ensures)
+
+pub empty-fits-spec : {M : Type 1} → statement M
+empty-fits-spec =
+    tie.close
+    (tie.spec
+    sub-left
+    returns
+    mul-base
+    mul-base-2
+    add-base
+    stands-at-requires
+    steps-to-requires
+    last-row-requires
+    meets-requires
+    returns-2)

@@ -1,0 +1,61 @@
+-- `search::go` meets its contract: each field is picked by what the letter has.
+-- Assumes nothing.
+use Rattle.search.proofs.Choices.{go-behind}
+use borrow.Author.Needs.{needs}
+use Rattle.search.proofs.walk.go.Statement.{statement}
+use Rattle.search.proofs.walk.go.Tie as tie
+
+-- src/walk.rt:185:9
+has-top-requires : tie.Need-has-top-requires
+has-top-requires c κs = search needs
+
+-- src/walk.rt:186:9
+has-bottom-requires : tie.Need-has-bottom-requires
+has-bottom-requires c κs = search needs
+
+-- src/walk.rt:188:12
+sub-t5 : tie.Need-sub-t5
+sub-t5 c = search needs
+
+-- src/walk.rt:189:22
+less-requires : tie.Need-less-requires
+less-requires c κs = search needs
+
+-- src/walk.rt:189:12
+pick-requires : tie.Need-pick-requires
+pick-requires c κs = search needs
+
+-- src/walk.rt:190:25
+less-requires-2 : tie.Need-less-requires-2
+less-requires-2 c κs = search needs
+
+-- src/walk.rt:190:12
+pick-requires-2 : tie.Need-pick-requires-2
+pick-requires-2 c κs = search needs
+
+-- src/walk.rt:191:14
+pick-requires-3 : tie.Need-pick-requires-3
+pick-requires-3 c κs = search needs
+
+-- src/walk.rt:192:17
+pick-requires-4 : tie.Need-pick-requires-4
+pick-requires-4 c κs = search needs
+
+-- src/walk.rt:181:1
+returns : tie.Need-returns
+returns c = go-behind (c .before .before .before .before .before .before .before .before .before .args .letter) (c .before .before .before .before .before .before .before .before .before .args .m) _ _ _ _ _ _ _ _ (c .before .before .before .before .before .before .before .before .has-top .ensures) (c .before .before .before .before .before .before .before .has-bottom .ensures) (c .before .before .before .before .before .less .ensures) (c .before .before .before .less2 .ensures) (c .before .before .before .before .pick .ensures) (c .before .before .pick2 .ensures) (c .before .pick3 .ensures) (c .pick4 .ensures)
+
+pub go-spec : {M : Type 1} → statement M
+go-spec =
+    tie.close
+    (tie.spec
+    has-top-requires
+    has-bottom-requires
+    sub-t5
+    less-requires
+    pick-requires
+    less-requires-2
+    pick-requires-2
+    pick-requires-3
+    pick-requires-4
+    returns)

@@ -1,0 +1,38 @@
+-- `search::left_numbers` meets its contract: none, or those that `back` finds.
+-- Assumes nothing.
+use Prim.Native.Nat.{_-_}
+use mathlib.Core.Path.{_∙_}
+use native.Mathlib.Omega.{arith}
+use Rattle.bits.proofs.Laws.{bit-zero}
+use Rattle.search.proofs.Choices.{stands-high, no-lefts, some-lefts}
+use borrow.Author.Needs.{needs}
+use Rattle.search.proofs.walk.left_numbers.Statement.{statement}
+use Rattle.search.proofs.walk.left_numbers.Tie as tie
+
+sub-left : tie.Need-sub-left
+sub-left c = search needs
+
+returns : tie.Need-returns
+returns c = λ y h. bit-zero y ∙ no-lefts (c .before .before .before .args .rules .now) (c .before .before .before .args .q) (c .before .before .before .args .m) y (c .if1 .taken)
+
+stands-at-requires : tie.Need-stands-at-requires
+stands-at-requires c κs = (c .before .before .before .pre .4, λ h. omega (arith, c .before .before .before .pre .5 h, c .if1 .left, c .before .before .before .pre .2))
+
+steps-to-requires : tie.Need-steps-to-requires
+steps-to-requires c κs = search needs
+
+back-requires : tie.Need-back-requires
+back-requires c κs =
+    let a = c .before .before .before .before .before .args in (
+      omega (arith, c .before .before .before .before .before .pre .3),
+      rw (c .before .stands-at .ensures)
+          (stands-high (a .m .j) (a .q) (a .m .bottom) (a .m .c - 1 - a .m .j) (λ h. omega (arith, c .before .before .before .before .before .pre .5 h, c .before .before .if1 .left, c .before .before .before .before .before .pre .2)) (c .before .before .before .before .before .pre .4) (omega (arith, c .before .before .before .before .before .pre .3))),
+    )
+
+returns-2 : tie.Need-returns-2
+returns-2 c = λ y h. c .back .ensures y h ∙ some-lefts (c .before .before .before .before .before .before .args .rules .now) (c .before .before .before .before .before .before .args .q) (c .before .before .before .before .before .before .args .m) y _ _ (c .before .before .before .if1 .left) (c .before .before .stands-at .ensures) (c .before .steps-to .ensures)
+
+pub left-numbers-spec : {M : Type 1} → statement M
+left-numbers-spec =
+    tie.close
+    (tie.spec sub-left returns stands-at-requires steps-to-requires back-requires returns-2)

@@ -1,0 +1,24 @@
+-- `search::put_one` meets its contract.
+-- Assumes nothing.
+use borrow.Author.Needs.{needs}
+use Rattle.search.proofs.walk.put_one.Statement.{statement}
+use Rattle.search.proofs.walk.put_one.Tie as tie
+
+-- src/walk.rt:202:9
+slice-write-columns : tie.Need-slice-write-columns
+slice-write-columns c = c .before .pre (c .if1 .taken)
+
+-- src/walk.rt:197:1
+same-length : tie.Need-same-length
+same-length c = search needs
+
+-- src/walk.rt:197:1
+returns : tie.Need-returns
+returns c = rw (c .if1 .taken)
+
+-- src/walk.rt:197:1
+returns-2 : tie.Need-returns-2
+returns-2 c = rw (c .if1 .left)
+
+pub put-one-spec : {M : Type 1} → statement M
+put-one-spec = tie.close (tie.spec slice-write-columns same-length returns returns-2)

@@ -1,0 +1,98 @@
+-- What a search answers and leaves behind (document 01, "Column, crossing, density" and "The refusal list").
+-- Assumes nothing.
+use Prim.Native.Nat.{ℕ, _+_}
+use mathlib.Core.Path.{_≡_}
+use mathlib.Core.List.{List, _++_}
+use mathlib.Core.Bool.{cond}
+use lib.ListN.{length, drop, replicate}
+use lib.Dec.{ltb}
+use Rattle.channel.specs.Sheet.{Sheet}
+use Rattle.channel.specs.Best.{Found, best}
+use Rattle.channel.specs.Best.Found.{none, found}
+use Rattle.sheet.specs.declared.Checked.{Checked}
+use Rattle.sheet.specs.declared.Checked.the-variants.{Sound, Refused}
+use Rattle.sheet.specs.Check.{checkOf}
+use Rattle.sheet.specs.Read.{sheetOf}
+use Rattle.sheet.specs.Parts.{cellsOf}
+use Rattle.sheet.specs.Refusals as sheet
+use Rattle.search.specs.declared.Searched.{Searched}
+use Rattle.search.specs.declared.Searched.the-variants as searched
+
+-- "a column buffer of at least p+q bytes, and a work buffer of at least (p+1)(q+1)(L+1)² 16-bit cells"
+abbrev pub pinsNeeded : Sheet → ℕ
+pinsNeeded s = length (s .top) + length (s .bottom)
+
+abbrev pub cellsNeeded : Sheet → ℕ
+cellsNeeded s = cellsOf (s .columns) (length (s .top)) (length (s .bottom))
+
+-- the least density, or 11
+abbrev pub answerAs : Found → Searched
+answerAs none = searched.NoAssignment
+answerAs (found d cs) = searched.Found d
+
+-- "for a search 9, 10, 11", with so many column bytes and work cells
+unfoldable pub answerIn : Sheet → ℕ → ℕ → Searched
+answerIn s columns cells =
+    cond (ltb columns (pinsNeeded s)) searched.Columns (cond (ltb cells (cellsNeeded s)) searched.Cells (answerAs (best s)))
+
+abbrev pub answerIf : Checked → Sheet → ℕ → ℕ → Searched
+answerIf Sound s columns cells = answerIn s columns cells
+answerIf (Refused why) s columns cells = searched.Sheet why
+
+-- the answer: 1 to 8 as the sheet layer says, then 9, 10, 11, else the least density
+unfoldable pub searchedOf : List ℕ → ℕ → ℕ → Searched
+searchedOf bytes columns cells = answerIf (checkOf bytes) (sheetOf bytes) columns cells
+
+-- "On success the first p+q bytes hold the columns and the rest is unchanged"
+abbrev pub withColumns : Found → List ℕ → List ℕ
+withColumns none old = old
+withColumns (found d cs) old = cs ++ drop (length cs) old
+
+abbrev pub columnsIf : Searched → Sheet → List ℕ → List ℕ
+columnsIf (searched.Found d) s old = withColumns (best s) old
+columnsIf (searched.Sheet why) s old = old
+columnsIf searched.Columns s old = old
+columnsIf searched.Cells s old = old
+columnsIf searched.NoAssignment s old = old
+
+-- the column buffer at exit
+unfoldable pub columnsAfter : List ℕ → ℕ → List ℕ → List ℕ
+columnsAfter bytes cells old = columnsIf (searchedOf bytes (length old) cells) (sheetOf bytes) old
+
+-- "On success and on 11, the first (p+1)(q+1)(L+1)² work cells are 0 and the rest unchanged. On other refusals the work buffer
+-- is unchanged"
+abbrev pub cleared : ℕ → List ℕ → List ℕ
+cleared n old = replicate n 0 ++ drop n old
+
+abbrev pub workIf : Searched → Sheet → List ℕ → List ℕ
+workIf (searched.Found d) s old = cleared (cellsNeeded s) old
+workIf (searched.Sheet why) s old = old
+workIf searched.Columns s old = old
+workIf searched.Cells s old = old
+workIf searched.NoAssignment s old = cleared (cellsNeeded s) old
+
+-- the work buffer at exit
+unfoldable pub workAfter : List ℕ → ℕ → List ℕ → List ℕ
+workAfter bytes columns old = workIf (searchedOf bytes columns (length old)) (sheetOf bytes) old
+
+-- the number of an answer, 0 with a density
+abbrev pub numberOf : Searched → ℕ
+numberOf (searched.Found d) = 0
+numberOf (searched.Sheet why) = sheet.numberOf why
+numberOf searched.Columns = 9
+numberOf searched.Cells = 10
+numberOf searched.NoAssignment = 11
+
+-- "Each refusal carries density 0"
+abbrev pub densityOf : Searched → ℕ
+densityOf (searched.Found d) = d
+densityOf (searched.Sheet why) = 0
+densityOf searched.Columns = 0
+densityOf searched.Cells = 0
+densityOf searched.NoAssignment = 0
+
+-- the promise of a search: its answer, the columns and the cells at exit
+pub record Searches (bytes buffer work buffer' work' : List ℕ) (r : Searched) : Type 0 where
+  pub answer : r ≡ searchedOf bytes (length buffer) (length work)
+  pub columns : buffer' ≡ columnsAfter bytes (length work) buffer
+  pub cells : work' ≡ workAfter bytes (length buffer) work

@@ -1,0 +1,103 @@
+// Passes over the table: whether all pins can be placed under a bound, and the least such bound.
+use crate::walk::walk;
+use bits::below;
+use table::Grid;
+use table::fill;
+use table::meets;
+ghost use Prim.Native.Nat.{_+_, _*_, _≤_, _<_};
+ghost use mathlib.Core.Path.{_≡_};
+ghost use mathlib.Core.Bool.{true, cond};
+ghost use mathlib.Core.List.{_++_};
+ghost use lib.ListN.{length, drop, replicate};
+ghost use Rattle.table.specs.Room.{Sides};
+ghost use Rattle.search.specs.Walking.{Lies};
+ghost use Rattle.search.specs.Pass.{placeable, Rising, Least, Tried, Bounded, Placed};
+
+// What all passes go by: the table's measures, the numbers of pins and the length of the channel.
+pub struct Plan {
+    pub grid: Grid,
+    pub p: usize,
+    pub q: usize,
+    pub l: usize,
+}
+
+// What the passes come to.
+pub enum Outcome {
+    Least(u8),
+    Nothing,
+}
+
+// Fills the table under a bound, and says whether all pins can be placed.
+fn try_bound(work: &mut [u16], rules: &[u64], loads: &[u8], plan: Plan, bound: u8) -> bool
+    requires { ⌜ Sides (now rules) (now loads) × Lies (now work) (now rules) (plan .grid) (plan .p) (plan .q) × (plan .q ≤ plan .l) × (plan .l ≤ 64) ⌝ }
+    ensures { λ r. ⌜ Tried (now (rules .entry)) (now (loads .entry)) plan bound (now (work .entry)) (now (work .exit)) r ⌝ }
+{
+    let grid = plan.grid;
+    let p = plan.p;
+    let q = plan.q;
+    fill(work, rules, loads, grid, bound, p);
+    let base = p * grid.stride + q * grid.size;
+    meets(
+        work,
+        base,
+        0,
+        grid.rows - 1,
+        63,
+        18446744073709551615,
+        below(plan.l + 1 - q),
+    )
+}
+
+fn pick(yes: bool, a: u8, b: u8) -> u8
+    ensures { λ r. ⌜ r ≡ cond yes a b ⌝ }
+{
+    if yes { a } else { b }
+}
+
+// The least bound under which all pins can be placed, where 128 is such a bound.
+fn least(work: &mut [u16], rules: &[u64], loads: &[u8], plan: Plan) -> u8
+    requires { ⌜ Sides (now rules) (now loads) × Lies (now work) (now rules) (plan .grid) (plan .p) (plan .q) × (plan .q ≤ plan .l) × (plan .l ≤ 64) × (placeable (now rules) (now loads) plan 128 ≡ true) × Rising (placeable (now rules) (now loads) plan) ⌝ }
+    ensures { λ r. ⌜ Bounded (now (rules .entry)) (now (loads .entry)) plan (now (work .entry)) (now (work .exit)) r ⌝ }
+{
+    let mut low: u8 = 0;
+    let mut high: u8 = 128;
+    while low < high {
+        let middle = low + (high - low) / 2;
+        let yes = try_bound(work, rules, loads, plan, middle);
+        high = pick(yes, middle, high);
+        low = pick(yes, low, middle + 1);
+    }
+    high
+}
+
+// The columns of the walk under the least bound, if there is one.
+pub fn place(
+    work: &mut [u16],
+    rules: &[u64],
+    loads: &[u8],
+    plan: Plan,
+    columns: &mut [u8],
+) -> Outcome
+    requires { ⌜ Sides (now rules) (now loads) × Lies (now work) (now rules) (plan .grid) (plan .p) (plan .q) × (plan .q ≤ plan .l) × (plan .l ≤ 64) × (plan .p + plan .q ≤ length (now columns)) × Rising (placeable (now rules) (now loads) plan) ⌝ }
+    ensures { λ r. ⌜ Placed (now (rules .entry)) (now (loads .entry)) plan (now (work .entry)) (now (work .exit)) (now (columns .entry)) (now (columns .exit)) r ⌝ }
+{
+    if try_bound(work, rules, loads, plan, 128) {
+        let bound = least(work, rules, loads, plan);
+        fill(work, rules, loads, plan.grid, bound, plan.p);
+        walk(work, rules, plan.grid, plan.p, plan.q, plan.l, columns);
+        return Outcome::Least(bound);
+    }
+    Outcome::Nothing
+}
+
+// Sets the first n cells to 0.
+pub fn clear(work: &mut [u16], n: usize)
+    requires { ⌜ n ≤ length (now work) ⌝ }
+    ensures { λ _. ⌜ now (work .exit) ≡ replicate n 0 ++ drop n (now (work .entry)) ⌝ }
+{
+    let mut i = 0;
+    while i < n {
+        work[i] = 0;
+        i += 1;
+    }
+}
