@@ -41,18 +41,25 @@ module _ (bytes buffer work buffer' work' : List ℕ) (r : Searched) (searches :
         let (e, same) = read-checked bytes s (long .reads) in
         rw (e, ← same, le-ltb _ _ (long .pins), le-ltb _ _ (long .cells))
 
-    -- and what it gave
-    pub gave : (d : ℕ) (cs : List ℕ) → best s ≡ found d cs → Gave s r buffer' d
-    unfolding columnsAfter
-    gave d cs e =
-        let (checks, same) = read-checked bytes s (long .reads) in
-        let is : IsBest s d cs = subst (Answers s) e (best-answers s (read-sound bytes s (long .reads))) in
-        let answer : searchedOf bytes (length buffer) (length work) ≡ searched.Found d = answers-best ∙ ap answerAs e in
-        let columns : buffer' ≡ cs ++ drop (length cs) buffer
-        = searches .columns ∙ rw (answer, ← same, e) in
-        let front : take (pinsNeeded s) buffer' ≡ cs
-        = ap (take (pinsNeeded s)) columns ∙ take-at cs (drop (length cs) buffer) (pinsNeeded s) (assignment-length s cs (is .assignment)) in
-        record { answer = searches .answer ∙ answer; best = rw front is }
+    -- its columns
+    module _ (d : ℕ) (cs : List ℕ) (e : best s ≡ found d cs) where
+      is-best : IsBest s d cs
+      is-best = subst (Answers s) e (best-answers s (read-sound bytes s (long .reads)))
+
+      answers-found : searchedOf bytes (length buffer) (length work) ≡ searched.Found d
+      answers-found = answers-best ∙ ap answerAs e
+
+      pub columns-found : take (pinsNeeded s) buffer' ≡ cs
+      unfolding columnsAfter
+      columns-found =
+          let (checks, same) = read-checked bytes s (long .reads) in
+          let columns : buffer' ≡ cs ++ drop (length cs) buffer = searches .columns ∙ rw (answers-found, ← same, e) in
+          ap (take (pinsNeeded s)) columns
+          ∙ take-at cs (drop (length cs) buffer) (pinsNeeded s) (assignment-length s cs (is-best .assignment))
+
+      -- and what it gave
+      gave : Gave s r buffer' d
+      gave = record { answer = searches .answer ∙ answers-found; best = rw columns-found is-best }
 
 -- demand 3
 pub two-searches :

@@ -2,6 +2,7 @@
 
 mod format;
 mod parts;
+mod refusals;
 mod soundness;
 mod terminal;
 mod walk;
@@ -10,6 +11,7 @@ pub use parts::record_at;
 pub use parts::record_in;
 pub use parts::section;
 pub use parts::shape_of;
+pub use refusals::number_of;
 pub use soundness::check;
 pub use terminal::allows;
 pub use terminal::in_range;
@@ -21,7 +23,7 @@ pub enum Side {
     Bottom,
 }
 
-// Why a sheet is refused; `numberOf` of specs/Refusals.antt gives each its number.
+// Why a sheet is refused; `number_of` gives each its number.
 pub enum Refusal {
     Short,
     Mark,
