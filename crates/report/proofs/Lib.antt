@@ -1,0 +1,5 @@
+pub mod Writes
+pub mod Numbers
+pub mod Spelt
+pub mod Walked
+pub mod Prints

@@ -1,0 +1,108 @@
+-- Why the text is the one to print: a search that found an assignment found the best one, and the columns are its columns.
+-- Assumes nothing.
+use Prim.Native.Nat.{ℕ, _+_, _≤_, _<_}
+use mathlib.Core.Path.{_≡_, refl, sym, _∙_, ap}
+use mathlib.Core.List.{List, _++_}
+use mathlib.Core.Bool.{Bool, true, false, cond}
+use native.Mathlib.Omega.{arith}
+use native.Mathlib.Nat.{zero-add}
+use lib.Dec.{ltb}
+use lib.ListN.{length, take, drop, length-append}
+use lib.Seq.{sets-eq}
+use borrow.Author.Tests.{lt-ltb, le-ltb, ltb-false}
+use Rattle.channel.specs.Best.{Found, best}
+use Rattle.channel.specs.Best.Found.{none, found}
+use Rattle.sheet.specs.declared.Checked.{Checked}
+use Rattle.sheet.specs.declared.Checked.the-variants as checked
+use Rattle.sheet.specs.Check.{checkOf}
+use Rattle.sheet.specs.Read.{readAs, read, sheetOf}
+use Rattle.sheet.specs.Read.Read.{sound}
+use Rattle.sheet.specs.Parts.{shapeOf}
+use Rattle.search.specs.declared.Searched.{Searched}
+use Rattle.search.specs.declared.Searched.the-variants as searched
+use Rattle.search.specs.Answer.{pinsNeeded, cellsNeeded, answerAs, answerIn, answerIf, searchedOf, Searches}
+use Rattle.search.specs.Pair.{LongEnough}
+use Rattle.search.proofs.TwoSearches.{columns-found}
+use Rattle.report.specs.Text.{lines}
+use Rattle.report.specs.Printed.{refusal, headed, result, answered, searchText, printed, Prints}
+use Rattle.report.specs.Writing.{Wrote, walkOf}
+
+-- a text at the buffer's start
+pub at-start :
+    (input : List ℕ) {old text new : List ℕ} {end : ℕ} → text ≡ printed input → end ≤ length old → Wrote old 0 text new end
+    → Prints input old new end
+at-start input {old} {text} {new} {end} e room w =
+    let size : end ≡ length text = w .place ∙ zero-add (length text) in
+    let fits : 0 + length text ≤ length old = omega arith in
+    record {
+      text =
+          w .bytes
+          ∙ sets-eq text old 0 fits
+          ∙ ap (λ (k : ℕ). text ++ drop k old) (zero-add (length text))
+          ∙ ap (λ (t : List ℕ). t ++ drop (length t) old) e;
+      size = size ∙ ap length e;
+    }
+
+-- 15
+pub too-long : (input : List ℕ) → 1548 < length input → refusal 15 ≡ printed input
+unfolding printed
+too-long input h = rw (lt-ltb _ _ h)
+
+-- a search that found an assignment: the sheet is sound, the buffers are long enough, and the assignment is the best
+module _ (b : List ℕ) (k m d : ℕ) where
+  pub record Finds : Type 0 where
+    pub long : LongEnough b (sheetOf b) k m
+    pub columns : List ℕ
+    pub best : best (sheetOf b) ≡ found d columns
+
+  by-best :
+      LongEnough b (sheetOf b) k m → (f : Found) → best (sheetOf b) ≡ f → answerAs f ≡ searched.Found d → Finds
+  by-best long none e q = let z : _≡_ {A = ℕ} 0 1 = cc in absurd (omega arith)
+  by-best long (found j cs) e q =
+      let z : j ≡ d = cc in record { long = long; columns = cs; best = e ∙ ap (λ (i : ℕ). found i cs) z }
+
+  by-room :
+      read b ≡ sound (sheetOf b) → (few less : Bool) → ltb k (pinsNeeded (sheetOf b)) ≡ few → ltb m (cellsNeeded (sheetOf b)) ≡ less
+      → cond few searched.Columns (cond less searched.Cells (answerAs (best (sheetOf b)))) ≡ searched.Found d → Finds
+  by-room reads true less e f q = let z : _≡_ {A = ℕ} 0 1 = cc in absurd (omega arith)
+  by-room reads false true e f q = let z : _≡_ {A = ℕ} 0 1 = cc in absurd (omega arith)
+  by-room reads false false e f q =
+      by-best (record { reads = reads; pins = ltb-false _ _ e; cells = ltb-false _ _ f }) (best (sheetOf b)) refl q
+
+  by-check : (r : Checked) → checkOf b ≡ r → answerIf r (sheetOf b) k m ≡ searched.Found d → Finds
+  unfolding answerIn read
+  by-check checked.Sound e q = by-room (ap (readAs (sheetOf b)) e) _ _ refl refl q
+  by-check (checked.Refused why) e q = let z : _≡_ {A = ℕ} 0 1 = cc in absurd (omega arith)
+
+  finds : searchedOf b k m ≡ searched.Found d → Finds
+  unfolding searchedOf
+  finds = by-check (checkOf b) refl
+
+-- the text of the answer of a search with so many column bytes and work cells
+module _ (input buffer work buffer' work' : List ℕ) (r : Searched) (searches : Searches input buffer work buffer' work' r)
+    (columns : length buffer ≡ 128) (cells : length work ≡ 30000) (short : length input ≤ 1548)
+  where
+    pub answer-text : (k : Searched) → r ≡ k → answered k (sheetOf input) ≡ printed input
+    unfolding printed searchText
+    answer-text k e =
+        rw (le-ltb _ _ short, ← columns, ← cells) (ap (λ (j : Searched). answered j (sheetOf input)) (sym e ∙ searches .answer))
+
+    module _ (d : ℕ) (e : r ≡ searched.Found d) where
+      found-best : Finds input (length buffer) (length work) d
+      found-best = finds input (length buffer) (length work) d (sym (searches .answer) ∙ e)
+
+      pub found-pins : shapeOf input .pins ≤ 128
+      unfolding shapeOf
+      found-pins = rw (found-best .long .reads, ← columns) (found-best .long .pins)
+
+      pub found-text : headed d (lines (walkOf input) (take (shapeOf input .pins) buffer')) ≡ printed input
+      unfolding shapeOf walkOf
+      found-text =
+          let f = found-best in
+          rw (f .long .reads, columns-found input buffer work buffer' work' r searches (sheetOf input) (f .long) d (f .columns) (f .best))
+          (ap (result (sheetOf input)) (sym (f .best)) ∙ answer-text (searched.Found d) e)
+
+-- the text lies within the buffer
+pub text-fits : {input old new : List ℕ} {n : ℕ} → Prints input old new n → n ≤ length new
+text-fits {input} {old} p =
+    rw (p .text, length-append (printed input) (drop (length (printed input)) old), p .size) (omega arith)

@@ -1,0 +1,67 @@
+-- `report::lines::put_lines` meets its contract: after k turns the lines of the first k terminals are written.
+-- Assumes nothing.
+use Prim.Native.Nat.{_+_, _-_, _*_, _≤_}
+use lib.ListN.{length, take}
+use native.Mathlib.Omega.{arith}
+use Rattle.report.specs.Text.{lines}
+use Rattle.report.specs.Writing.{Wrote, walkOf}
+use Rattle.report.proofs.Writes.{wrote-nothing, after, kept, same-text}
+use Rattle.report.proofs.Walked.{next-line, all-lines}
+use borrow.Author.Needs.{needs}
+use Rattle.report.proofs.lines.put_lines.Statement.{statement}
+use Rattle.report.proofs.lines.put_lines.Tie as tie
+
+abbrev Inv-loop : tie.InvT-loop
+Inv-loop s columns out₀ at end₀ k₀ out end k =
+    Wrote out₀ at (lines (take k (walkOf s)) (take k columns)) out end × (end ≤ at + 28 * k) × (k ≤ length columns)
+
+abbrev μ-loop : tie.MeasureT-loop
+μ-loop s columns out₀ at end₀ k₀ out end k = length columns - k
+
+loop-holds : tie.Need-loop-holds Inv-loop μ-loop
+loop-holds c = (wrote-nothing _ _, omega arith, omega arith)
+
+step-requires : tie.Need-step-requires Inv-loop μ-loop
+step-requires c κs = search needs
+
+shared-slice-read-put-step : tie.Need-shared-slice-read-put-step Inv-loop μ-loop
+shared-slice-read-put-step c = search needs
+
+put-step-requires : tie.Need-put-step-requires Inv-loop μ-loop
+put-step-requires c κs = let l = kept (c .before .before .before .before .loop .inv .0) in search needs
+
+add-k : tie.Need-add-k Inv-loop μ-loop
+add-k c = search needs
+
+loop-less : tie.Need-loop-less Inv-loop μ-loop
+loop-less c = search needs
+
+loop-again : tie.Need-loop-again Inv-loop μ-loop
+loop-again c =
+    let l = c .before .before .before .before .before .before .before .loop in
+    let a = c .before .before .before .before .before .before .before .before .before .before .before .args in
+    let put = c .before .before .put-step in
+    let line = next-line (a .s .now) (a .columns .now) (l .k) _ (c .before .before .before .before .before .step .ensures) (c .before .before .before .before .before .before .loop-test .taken) in
+    (same-text line (after (l .inv .0) (put .ensures .0)), omega (arith, put .ensures .1), omega arith)
+
+same-length : tie.Need-same-length Inv-loop μ-loop
+same-length c = kept (c .before .loop .inv .0)
+
+returns : tie.Need-returns Inv-loop μ-loop
+returns c = (same-text (all-lines _ _ _ (c .loop-test .left)) (c .before .loop .inv .0), omega arith)
+
+pub put-lines-spec : {M : Type 1} → statement M
+put-lines-spec =
+    tie.close
+    (tie.spec
+    Inv-loop
+    μ-loop
+    loop-holds
+    step-requires
+    shared-slice-read-put-step
+    put-step-requires
+    add-k
+    loop-less
+    loop-again
+    same-length
+    returns)

@@ -1,0 +1,30 @@
+-- `report::put_refusal` meets its contract: the name and number, then the line's end.
+-- Assumes nothing.
+use native.Mathlib.Omega.{arith}
+use Rattle.report.proofs.Writes.{after}
+use borrow.Author.Needs.{needs}
+use Rattle.report.proofs.put_refusal.Statement.{statement}
+use Rattle.report.proofs.put_refusal.Tie as tie
+
+slice-aggregate-put-field : tie.Need-slice-aggregate-put-field
+slice-aggregate-put-field c = search needs
+
+put-field-requires : tie.Need-put-field-requires
+put-field-requires c κs = search needs
+
+put-byte-requires : tie.Need-put-byte-requires
+put-byte-requires c κs = search needs
+
+same-length : tie.Need-same-length
+same-length c = search needs
+
+returns : tie.Need-returns
+returns c =
+    let name = c .before .before .before .before .before .before .put-field .ensures in
+    let end = c .before .before .put-byte .ensures in
+    (after (name .0) end, omega (arith, name .1, end .place))
+
+pub put-refusal-spec : {M : Type 1} → statement M
+put-refusal-spec =
+    tie.close
+    (tie.spec slice-aggregate-put-field put-field-requires put-byte-requires same-length returns)

@@ -1,0 +1,60 @@
+-- `report::put_result` meets its contract: the line of the density, then the lines of the terminals.
+-- Assumes nothing.
+use mathlib.Core.Path.{sym}
+use native.Mathlib.Omega.{arith}
+use lib.Seq.{length-take-le}
+use Rattle.report.proofs.Writes.{after, kept}
+use borrow.Author.Needs.{needs}
+use Rattle.report.proofs.put_result.Statement.{statement}
+use Rattle.report.proofs.put_result.Tie as tie
+
+shape-of-requires : tie.Need-shape-of-requires
+shape-of-requires c κs = search needs
+
+slice-aggregate-put-field : tie.Need-slice-aggregate-put-field
+slice-aggregate-put-field c = search needs
+
+put-field-requires : tie.Need-put-field-requires
+put-field-requires c κs = search needs
+
+put-byte-requires : tie.Need-put-byte-requires
+put-byte-requires c κs = search needs
+
+slice-aggregate-put-lines : tie.Need-slice-aggregate-put-lines
+slice-aggregate-put-lines c =
+    let pins = rw (← c .before .before .before .before .before .before .before .before .before .before .shape-of .ensures) at (c .before .before .before .before .before .before .before .before .before .before .before .before .before .before .pre .0) in
+    sym (length-take-le _ _ pins)
+
+put-lines-requires : tie.Need-put-lines-requires
+put-lines-requires c κs =
+    let pins = rw (← c .before .before .before .before .before .before .before .before .before .before .before .shape-of .ensures) at (c .before .before .before .before .before .before .before .before .before .before .before .before .before .before .before .pre .0) in
+    let room = c .before .before .before .before .before .before .before .before .before .before .before .before .before .before .before .pre .1 in
+    let start = c .before .before .before .before .put-byte .ensures in
+    let name = c .before .before .before .before .before .before .before .before .put-field .ensures in
+    rw (length-take-le _ _ pins) (omega (arith, start .place, name .1, kept start, kept (name .0)))
+
+same-length : tie.Need-same-length
+same-length c = search needs
+
+returns : tie.Need-returns
+returns c =
+    let shape = c .before .before .before .before .before .before .before .before .before .before .before .before .before .before .shape-of .ensures in
+    let name = c .before .before .before .before .before .before .before .before .before .before .before .put-field .ensures in
+    let start = c .before .before .before .before .before .before .before .put-byte .ensures in
+    let rest = c .before .before .put-lines .ensures in
+    let a = c .before .before .before .before .before .before .before .before .before .before .before .before .before .before .before .before .before .before .args in
+    let fits = rw (← shape) at (c .before .before .before .before .before .before .before .before .before .before .before .before .before .before .before .before .before .before .pre .0) in
+    rw (← shape) (after (name .0) (after start (rest .0)), omega (arith, fits, length-take-le _ (a .columns .now) fits, name .1, start .place, rest .1))
+
+pub put-result-spec : {M : Type 1} → statement M
+put-result-spec =
+    tie.close
+    (tie.spec
+    shape-of-requires
+    slice-aggregate-put-field
+    put-field-requires
+    put-byte-requires
+    slice-aggregate-put-lines
+    put-lines-requires
+    same-length
+    returns)

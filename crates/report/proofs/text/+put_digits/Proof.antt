@@ -1,0 +1,65 @@
+-- The proof of the cycle of calls {put_digits}: all digits but the last are written by the call of itself, with one less at most.
+-- Assumes nothing.
+use Prim.Native.Nat.{ℕ, _-_, _/_, _<_}
+use mathlib.Core.Path.{_∙_}
+use native.Mathlib.Omega.{arith}
+use borrow.Fn.Kinds.{In}
+use borrow.Fn.PlainCycle.{Measures, is, falls, and}
+use Rattle.report.proofs.Writes.{wrote-nothing, kept, wrote-digit, wrote-digits}
+use Rattle.report.proofs.Numbers.{digits-at-most}
+use Rattle.report.proofs.text.put_digits.Reads as put-digits
+use Rattle.report.proofs.text.put_digits.Kinds as put-digits-kinds
+use Rattle.report.proofs.text.+put_digits.Lts-put_digits as put-digits-lts
+use Rattle.report.proofs.text.digit.Reads as digit-reads
+use Rattle.report.proofs.text.put_byte.Reads as put-byte-reads
+use Rattle.report.proofs.text.+put_digits.{statement}
+use Rattle.report.proofs.text.+put_digits.Tie.{close}
+
+abbrev μ-put-digits : Measures 1 put-digits-kinds.ps ℕ
+μ-put-digits κs a = a .1 .1 .1 .0
+
+abbrev put-digits-at : ℕ → In 1 put-digits-kinds.ps
+put-digits-at t = and 1 put-digits-kinds.ps (is 1 put-digits-kinds.ps μ-put-digits t) put-digits.Pre
+
+abbrev put-digits-below : ℕ → In 1 put-digits-kinds.ps
+put-digits-below t = and 1 put-digits-kinds.ps (falls 1 put-digits-kinds.ps _<_ μ-put-digits t) put-digits.Pre
+
+module _ (t : ℕ) where
+  returns : put-digits-lts.Need-returns (digit-reads.Asked, digit-reads.Learnt, put-byte-reads.Asked, put-byte-reads.Learnt, put-digits-below t, put-digits.Post) (put-digits-at t) put-digits.Post
+  returns c = rw (c .if1 .taken) (wrote-nothing _ _)
+
+  digit-requires : put-digits-lts.Need-digit-requires (digit-reads.Asked, digit-reads.Learnt, put-byte-reads.Asked, put-byte-reads.Learnt, put-digits-below t, put-digits.Post) (put-digits-at t) put-digits.Post
+  digit-requires c κs = c .before .if2 .taken
+
+  put-byte-requires : put-digits-lts.Need-put-byte-requires (digit-reads.Asked, digit-reads.Learnt, put-byte-reads.Asked, put-byte-reads.Learnt, put-digits-below t, put-digits.Post) (put-digits-at t) put-digits.Post
+  put-byte-requires c κs = let h = c .before .before .before .if1 .left in let g = c .before .before .before .before .before .pre .1 in omega arith
+
+  same-length : put-digits-lts.Need-same-length (digit-reads.Asked, digit-reads.Learnt, put-byte-reads.Asked, put-byte-reads.Learnt, put-digits-below t, put-digits.Post) (put-digits-at t) put-digits.Post
+  same-length c = kept (c .before .before .put-byte .ensures)
+
+  returns-2 : put-digits-lts.Need-returns-2 (digit-reads.Asked, digit-reads.Learnt, put-byte-reads.Asked, put-byte-reads.Learnt, put-digits-below t, put-digits.Post) (put-digits-at t) put-digits.Post
+  returns-2 c = wrote-digit _ _ _ (c .before .before .before .before .before .before .if1 .left) (c .before .before .before .before .before .if2 .taken) (c .before .before .before .digit .ensures) (c .before .before .put-byte .ensures)
+
+  sub-put-digits : put-digits-lts.Need-sub-put-digits (digit-reads.Asked, digit-reads.Learnt, put-byte-reads.Asked, put-byte-reads.Learnt, put-digits-below t, put-digits.Post) (put-digits-at t) put-digits.Post
+  sub-put-digits c = let h = c .before .before .if1 .left in omega arith
+
+  put-digits-requires : put-digits-lts.Need-put-digits-requires (digit-reads.Asked, digit-reads.Learnt, put-byte-reads.Asked, put-byte-reads.Learnt, put-digits-below t, put-digits.Post) (put-digits-at t) put-digits.Post
+  put-digits-requires c κs = let h = c .before .before .if1 .left in let e = c .before .before .before .before .pre .0 in let g = c .before .before .before .before .pre .1 in (omega arith, omega arith)
+
+  digit-requires-2 : put-digits-lts.Need-digit-requires-2 (digit-reads.Asked, digit-reads.Learnt, put-byte-reads.Asked, put-byte-reads.Learnt, put-digits-below t, put-digits.Post) (put-digits-at t) put-digits.Post
+  digit-requires-2 c κs = omega arith
+
+  put-byte-requires-2 : put-digits-lts.Need-put-byte-requires-2 (digit-reads.Asked, digit-reads.Learnt, put-byte-reads.Asked, put-byte-reads.Learnt, put-digits-below t, put-digits.Post) (put-digits-at t) put-digits.Post
+  put-byte-requires-2 c κs = let w = c .before .before .before .before .put-digits .ensures in let l = kept w in let m = digits-at-most (c .before .before .before .before .before .before .before .before .before .args .most - 1) (c .before .before .before .before .before .before .before .before .before .args .n / 10) in let h = c .before .before .before .before .before .before .before .if1 .left in let g = c .before .before .before .before .before .before .before .before .before .pre .1 in let e = w .place in omega arith
+
+  same-length-2 : put-digits-lts.Need-same-length-2 (digit-reads.Asked, digit-reads.Learnt, put-byte-reads.Asked, put-byte-reads.Learnt, put-digits-below t, put-digits.Post) (put-digits-at t) put-digits.Post
+  same-length-2 c = kept (c .before .before .put-byte2 .ensures) ∙ kept (c .before .before .before .before .before .before .before .put-digits .ensures)
+
+  returns-3 : put-digits-lts.Need-returns-3 (digit-reads.Asked, digit-reads.Learnt, put-byte-reads.Asked, put-byte-reads.Learnt, put-digits-below t, put-digits.Post) (put-digits-at t) put-digits.Post
+  returns-3 c = wrote-digits _ _ _ (c .before .before .before .before .before .before .before .before .before .before .if1 .left) (c .before .before .before .before .before .before .before .before .before .if2 .left) (c .before .before .before .digit2 .ensures) (c .before .before .before .before .before .before .before .put-digits .ensures) (c .before .before .put-byte2 .ensures)
+
+pub +put-digits-spec : {M : Type 1} → statement M
++put-digits-spec =
+    close μ-put-digits
+    (λ t. put-digits-lts.spec (digit-reads.Asked, digit-reads.Learnt, put-byte-reads.Asked, put-byte-reads.Learnt, put-digits-below t, put-digits.Post)
+    (put-digits-at t) put-digits.Post (returns t) (digit-requires t) (put-byte-requires t) (same-length t) (returns-2 t) (sub-put-digits t) (put-digits-requires t) (digit-requires-2 t) (put-byte-requires-2 t) (same-length-2 t) (returns-3 t))

@@ -1,0 +1,63 @@
+-- `report::text::put_text` meets its contract: after k turns the first k bytes of the text are written.
+-- Assumes nothing.
+use Prim.Native.Nat.{ℕ, _+_, _-_, _≤_}
+use mathlib.Core.Path.{_≡_, sym, _∙_, ap}
+use native.Mathlib.Omega.{arith}
+use native.Mathlib.Numerals.{add-one}
+use lib.ListN.{length, take}
+use lib.Seq.{take-suc, take-all}
+use Rattle.report.specs.Writing.{Wrote}
+use Rattle.report.proofs.Writes.{wrote-nothing, after, kept, same-text}
+use borrow.Author.Needs.{needs}
+use Rattle.report.proofs.text.put_text.Statement.{statement}
+use Rattle.report.proofs.text.put_text.Tie as tie
+
+abbrev Inv-loop : tie.InvT-loop
+Inv-loop out₀ at text end₀ k₀ out end k =
+    Wrote out₀ at (take k text) out end × (end ≡ at + k) × (k ≤ length text)
+
+abbrev μ-loop : tie.MeasureT-loop
+μ-loop out₀ at text end₀ k₀ out end k = length text - k
+
+loop-holds : tie.Need-loop-holds Inv-loop μ-loop
+loop-holds c = (wrote-nothing _ _, omega arith, omega arith)
+
+shared-slice-read-put-byte : tie.Need-shared-slice-read-put-byte Inv-loop μ-loop
+shared-slice-read-put-byte c = search needs
+
+put-byte-requires : tie.Need-put-byte-requires Inv-loop μ-loop
+put-byte-requires c κs = let l = kept (c .before .before .before .loop .inv .0) in search needs
+
+add-k : tie.Need-add-k Inv-loop μ-loop
+add-k c = search needs
+
+loop-less : tie.Need-loop-less Inv-loop μ-loop
+loop-less c = search needs
+
+loop-again : tie.Need-loop-again Inv-loop μ-loop
+loop-again c =
+    let l = c .before .before .before .before .before .before .loop in
+    let text = c .before .before .before .before .before .before .before .before .before .args .text .now in
+    let less = c .before .before .before .before .before .loop-test .taken in
+    (same-text (sym (ap (λ (k : ℕ). take k text) (add-one (l .k)) ∙ take-suc text (l .k) 0 less)) (after (l .inv .0) (c .before .before .put-byte .ensures)), c .before .before .put-byte .ensures .place ∙ omega arith, omega arith)
+
+same-length : tie.Need-same-length Inv-loop μ-loop
+same-length c = kept (c .before .loop .inv .0)
+
+returns : tie.Need-returns Inv-loop μ-loop
+returns c = same-text (take-all _ _ (c .loop-test .left)) (c .before .loop .inv .0)
+
+pub put-text-spec : {M : Type 1} → statement M
+put-text-spec =
+    tie.close
+    (tie.spec
+    Inv-loop
+    μ-loop
+    loop-holds
+    shared-slice-read-put-byte
+    put-byte-requires
+    add-k
+    loop-less
+    loop-again
+    same-length
+    returns)

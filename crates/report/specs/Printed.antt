@@ -1,0 +1,49 @@
+-- What the program prints of its input (document 01, "The program" and "The refusal list").
+-- Assumes nothing.
+use Prim.Native.Nat.{ℕ}
+use mathlib.Core.Path.{_≡_}
+use mathlib.Core.List.{List, _++_}
+use mathlib.Core.Bool.{cond}
+use lib.ListN.{length, drop}
+use lib.Dec.{ltb}
+use Rattle.channel.specs.Sheet.{Sheet}
+use Rattle.channel.specs.Best.{Found, best}
+use Rattle.channel.specs.Best.Found.{none, found}
+use Rattle.sheet.specs.Read.{sheetOf}
+use Rattle.sheet.specs.Walk.{walk}
+use Rattle.search.specs.declared.Searched.{Searched}
+use Rattle.search.specs.declared.Searched.the-variants as searched
+use Rattle.search.specs.Answer.{searchedOf, numberOf}
+use Rattle.report.specs.Text.{field, newline, density, refused, lines}
+
+-- "the single line `refused N`"
+abbrev pub refusal : ℕ → List ℕ
+refusal n = field refused n ++ newline
+
+-- the density, then a line for each terminal, top then bottom
+abbrev pub headed : ℕ → List ℕ → List ℕ
+headed d rest = field density d ++ (newline ++ rest)
+
+abbrev pub result : Sheet → Found → List ℕ
+result s none = refusal 11
+result s (found d cs) = headed d (lines (walk s) cs)
+
+abbrev pub answered : Searched → Sheet → List ℕ
+answered (searched.Found d) s = result s (best s)
+answered (searched.Sheet why) s = refusal (numberOf (searched.Sheet why))
+answered searched.Columns s = refusal (numberOf searched.Columns)
+answered searched.Cells s = refusal (numberOf searched.Cells)
+answered searched.NoAssignment s = refusal (numberOf searched.NoAssignment)
+
+-- "lends 30,000 work cells", and a column byte for each of at most 128 terminals
+unfoldable pub searchText : List ℕ → List ℕ
+searchText input = answered (searchedOf input 128 30000) (sheetOf input)
+
+-- "15 comes before all": an input above 1,548 bytes
+unfoldable pub printed : List ℕ → List ℕ
+printed input = cond (ltb 1548 (length input)) (refusal 15) (searchText input)
+
+-- the promise: the text at the start of the buffer, the rest unchanged, and the text's length
+pub record Prints (input old new : List ℕ) (n : ℕ) : Type 0 where
+  pub text : new ≡ printed input ++ drop (length (printed input)) old
+  pub size : n ≡ length (printed input)

@@ -1,0 +1,56 @@
+-- The lines of the program's text, in ASCII (document 01, "The program").
+-- Assumes nothing.
+use Prim.Native.Nat.{ℕ, zero, suc, _+_, _/_, _%_}
+use mathlib.Core.List.{List, [], _∷_, _++_}
+use mathlib.Core.Bool.{cond}
+use lib.Dec.{ltb}
+use Rattle.sheet.specs.declared.Side.{Side}
+use Rattle.sheet.specs.declared.Side.the-variants.{Top, Bottom}
+use Rattle.sheet.specs.declared.Visit.{Visit}
+
+-- the decimal digits of n, the most significant first, k of them at most
+abbrev pub digits : ℕ → ℕ → List ℕ
+digits zero n = []
+digits (suc k) n = cond (ltb n 10) ((48 + n) ∷ []) (digits k (n / 10) ++ ((48 + n % 10) ∷ []))
+
+-- a number: none that is printed has more than five digits, since nets have 16 bits
+unfoldable pub numeral : ℕ → List ℕ
+numeral n = digits 5 n
+
+abbrev pub newline : List ℕ
+newline = 10 ∷ []
+
+-- a name and its number
+abbrev pub field : List ℕ → ℕ → List ℕ
+field name n = name ++ numeral n
+
+-- the names: a space, " net ", " col ", "density ", "refused "
+abbrev pub space : List ℕ
+space = 32 ∷ []
+
+abbrev pub net : List ℕ
+net = 32 ∷ 110 ∷ 101 ∷ 116 ∷ 32 ∷ []
+
+abbrev pub col : List ℕ
+col = 32 ∷ 99 ∷ 111 ∷ 108 ∷ 32 ∷ []
+
+abbrev pub density : List ℕ
+density = 100 ∷ 101 ∷ 110 ∷ 115 ∷ 105 ∷ 116 ∷ 121 ∷ 32 ∷ []
+
+abbrev pub refused : List ℕ
+refused = 114 ∷ 101 ∷ 102 ∷ 117 ∷ 115 ∷ 101 ∷ 100 ∷ 32 ∷ []
+
+-- the letters T and B
+abbrev pub letterOf : Side → ℕ
+letterOf Top = 84
+letterOf Bottom = 66
+
+-- "side, place in that side's order from 1, net, column"
+unfoldable pub line : Visit → ℕ → List ℕ
+line v c = letterOf (v .side) ∷ (field space (v .place) ++ (field net (v .terminal .net) ++ (field col c ++ newline)))
+
+-- a line for each terminal and its column
+abbrev pub lines : List Visit → List ℕ → List ℕ
+lines [] cs = []
+lines (v ∷ vs) [] = []
+lines (v ∷ vs) (c ∷ cs) = line v c ++ lines vs cs

@@ -1,0 +1,61 @@
+// The text that the program prints, as functions on slices.
+mod lines;
+mod text;
+
+use lines::put_lines;
+use search::Searched;
+use sheet::number_of;
+use text::put_byte;
+use text::put_field;
+ghost use Prim.Native.Nat.{_+_, _*_, _≤_};
+ghost use lib.ListN.{length, take};
+ghost use Rattle.sheet.specs.Parts.{shapeOf};
+ghost use Rattle.report.specs.Printed.{refusal, headed, Prints};
+ghost use Rattle.report.specs.Text.{lines};
+ghost use Rattle.report.specs.Writing.{Wrote, walkOf};
+
+// Room for every text: the line of the density, and 128 lines of at most 28 bytes.
+pub const ROOM: usize = 4096;
+
+// Writes what the program prints of its input to the start of `out`; gives the text's length.
+pub fn print(input: &[u8], out: &mut [u8; ROOM]) -> usize
+    ensures { λ r. ⌜ Prints (now (input .entry)) (now (out .entry)) (now (out .exit)) r ⌝ }
+{
+    if 1548 < input.len() {
+        return put_refusal(out, 15);
+    }
+    let mut columns = [0u8; 128];
+    let mut work = [0u16; 30000];
+    let answer = search::search(input, &mut columns, &mut work);
+    match answer {
+        Searched::Found(d) => put_result(input, d, &columns, out),
+        Searched::Sheet(why) => put_refusal(out, number_of(why) as usize),
+        Searched::Columns => put_refusal(out, 9),
+        Searched::Cells => put_refusal(out, 10),
+        Searched::NoAssignment => put_refusal(out, 11),
+    }
+}
+
+// The single line of a refusal.
+fn put_refusal(out: &mut [u8], number: usize) -> usize
+    requires { ⌜ 14 ≤ length (now out) ⌝ }
+    ensures { λ r. ⌜ Wrote (now (out .entry)) 0 (refusal number) (now (out .exit)) r ⌝ }
+    ensures { λ r. ⌜ r ≤ 14 ⌝ }
+{
+    let end = put_field(out, 0, b"refused ", number);
+    put_byte(out, end, b'\n')
+}
+
+// The line of the density, then a line for each terminal.
+fn put_result(input: &[u8], density: u8, columns: &[u8], out: &mut [u8]) -> usize
+    requires { ⌜ shapeOf (now input) .pins ≤ length (now columns) ⌝ }
+    requires { ⌜ 14 + 28 * length (now columns) ≤ length (now out) ⌝ }
+    ensures { λ r. ⌜ Wrote (now (out .entry)) 0 (headed density (lines (walkOf (now (input .entry))) (take (shapeOf (now (input .entry)) .pins) (now (columns .entry))))) (now (out .exit)) r ⌝ }
+    ensures { λ r. ⌜ r ≤ 14 + 28 * length (now (columns .entry)) ⌝ }
+{
+    let shape = sheet::shape_of(input);
+    let pins = shape.pins;
+    let end = put_field(out, 0, b"density ", density as usize);
+    let start = put_byte(out, end, b'\n');
+    put_lines(input, &columns[..pins], out, start)
+}
