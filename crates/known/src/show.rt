@@ -1,0 +1,93 @@
+// The library's answers in lines of text.
+use crate::trial::Columns;
+use libc::STDOUT_FILENO;
+use measure::Measured;
+use search::Searched;
+use sheet::Checked;
+use sheet::Refusal;
+
+pub fn text(t: &[u8]) {
+    io::write_all(STDOUT_FILENO, t);
+}
+
+// A text and the number behind it.
+pub fn number(t: &[u8], n: u64) {
+    text(t);
+    io::print_decimal(STDOUT_FILENO, n);
+}
+
+pub fn checked(name: &[u8], answer: Checked) {
+    text(name);
+    text(b": ");
+    match answer {
+        Checked::Sound => text(b"accepted"),
+        Checked::Refused(why) => refused(number_of(why)),
+    }
+    text(b"\n");
+}
+
+// The columns found are the first `pins` bytes of the buffer.
+pub fn searched(name: &[u8], answer: Searched, buffer: &Columns, pins: usize) {
+    text(name);
+    text(b": ");
+    match answer {
+        Searched::Found(density) => found(density, buffer, pins),
+        Searched::Sheet(why) => refused(number_of(why)),
+        Searched::Columns => refused(9),
+        Searched::Cells => refused(10),
+        Searched::NoAssignment => refused(11),
+    }
+    text(b"\n");
+}
+
+pub fn measured(answer: Measured) {
+    text(b": ");
+    match answer {
+        Measured::Density(density) => number(b"density ", density as u64),
+        Measured::Sheet(why) => refused(number_of(why)),
+        Measured::Count => refused(12),
+        Measured::Allowed => refused(13),
+        Measured::Distance => refused(14),
+    }
+    text(b"\n");
+}
+
+fn refused(n: u64) {
+    number(b"refused ", n);
+}
+
+fn number_of(why: Refusal) -> u64 {
+    match why {
+        Refusal::Short => 1,
+        Refusal::Mark => 2,
+        Refusal::Length => 3,
+        Refusal::Count => 4,
+        Refusal::Layout => 5,
+        Refusal::Net => 6,
+        Refusal::Distance => 7,
+        Refusal::Beyond => 8,
+    }
+}
+
+fn found(density: u8, buffer: &Columns, pins: usize) {
+    number(b"density ", density as u64);
+    if pins == 0 {
+        text(b", no columns");
+    } else {
+        text(b", columns");
+        columns(buffer, pins);
+    }
+}
+
+// The first `pins` bytes of the list.
+pub fn columns(list: &[u8], pins: usize) {
+    for k in 0..pins {
+        if k < list.len() {
+            column(list[k]);
+        }
+    }
+}
+
+fn column(c: u8) {
+    number(b" ", c as u64);
+}
