@@ -4,7 +4,6 @@ ghost use Prim.Native.Nat.{_≤_};
 mod bytes;
 mod cells;
 mod draws;
-mod limits;
 mod lists;
 mod marks;
 mod report;
@@ -44,6 +43,5 @@ fn compare_all(work: &mut [u16]) {
 fn main() {
     // 5 * 5 * 65 * 65 cells for the largest sheet, and some behind
     let mut work = [0u16; 105640];
-    limits::sheet_a(&mut work);
     compare_all(&mut work);
 }

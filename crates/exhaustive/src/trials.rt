@@ -17,10 +17,10 @@ pub struct Trial {
 }
 
 // How much of the sheet, of the column buffer and of the work buffer a call is lent.
-pub struct Lent {
-    pub size: usize,
-    pub bytes: usize,
-    pub cells: usize,
+struct Lent {
+    size: usize,
+    bytes: usize,
+    cells: usize,
 }
 
 // What a call must do: its refusal's number, 1 for all of a sheet's and 0 for none, its density, how many
@@ -51,7 +51,7 @@ fn answer(best: Best, pins: usize, cells: usize) -> Expected {
     }
 }
 
-pub fn number_of(r: Searched) -> u8 {
+fn number_of(r: Searched) -> u8 {
     match r {
         Searched::Found(_) => 0,
         Searched::Sheet(_) => 1,
@@ -61,7 +61,7 @@ pub fn number_of(r: Searched) -> u8 {
     }
 }
 
-pub fn density_of(r: Searched) -> u64 {
+fn density_of(r: Searched) -> u64 {
     match r {
         Searched::Found(d) => d as u64,
         _ => 0,
@@ -77,7 +77,7 @@ fn cells_of(plan: Plan) -> usize
 }
 
 // Searches in the lent parts.
-pub fn run(s: &[u8], lent: Lent, columns: &mut [u8], work: &mut [u16]) -> Searched {
+fn run(s: &[u8], lent: Lent, columns: &mut [u8], work: &mut [u16]) -> Searched {
     let size = lent.size;
     let bytes = lent.bytes;
     let cells = lent.cells;
