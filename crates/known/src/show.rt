@@ -4,7 +4,7 @@ use libc::STDOUT_FILENO;
 use measure::Measured;
 use search::Searched;
 use sheet::Checked;
-use sheet::Refusal;
+use sheet::number_of;
 
 pub fn text(t: &[u8]) {
     io::write_all(STDOUT_FILENO, t);
@@ -21,7 +21,7 @@ pub fn checked(name: &[u8], answer: Checked) {
     text(b": ");
     match answer {
         Checked::Sound => text(b"accepted"),
-        Checked::Refused(why) => refused(number_of(why)),
+        Checked::Refused(why) => refused(number_of(why) as u64),
     }
     text(b"\n");
 }
@@ -32,7 +32,7 @@ pub fn searched(name: &[u8], answer: Searched, buffer: &Columns, pins: usize) {
     text(b": ");
     match answer {
         Searched::Found(density) => found(density, buffer, pins),
-        Searched::Sheet(why) => refused(number_of(why)),
+        Searched::Sheet(why) => refused(number_of(why) as u64),
         Searched::Columns => refused(9),
         Searched::Cells => refused(10),
         Searched::NoAssignment => refused(11),
@@ -44,7 +44,7 @@ pub fn measured(answer: Measured) {
     text(b": ");
     match answer {
         Measured::Density(density) => number(b"density ", density as u64),
-        Measured::Sheet(why) => refused(number_of(why)),
+        Measured::Sheet(why) => refused(number_of(why) as u64),
         Measured::Count => refused(12),
         Measured::Allowed => refused(13),
         Measured::Distance => refused(14),
@@ -54,19 +54,6 @@ pub fn measured(answer: Measured) {
 
 fn refused(n: u64) {
     number(b"refused ", n);
-}
-
-fn number_of(why: Refusal) -> u64 {
-    match why {
-        Refusal::Short => 1,
-        Refusal::Mark => 2,
-        Refusal::Length => 3,
-        Refusal::Count => 4,
-        Refusal::Layout => 5,
-        Refusal::Net => 6,
-        Refusal::Distance => 7,
-        Refusal::Beyond => 8,
-    }
 }
 
 fn found(density: u8, buffer: &Columns, pins: usize) {
