@@ -10,17 +10,21 @@ use lib.Dec.{ltb}
 use lib.ListN.{length, take, drop, length-append}
 use lib.Seq.{sets-eq}
 use borrow.Author.Tests.{lt-ltb, le-ltb, ltb-false}
+use Rattle.channel.specs.Sheet.{Sheet}
 use Rattle.channel.specs.Best.{Found, best}
 use Rattle.channel.specs.Best.Found.{none, found}
 use Rattle.sheet.specs.declared.Checked.{Checked}
 use Rattle.sheet.specs.declared.Checked.the-variants as checked
+use Rattle.sheet.specs.declared.Refusal.{Refusal}
+use Rattle.sheet.specs.declared.Refusal.the-variants as refusals
 use Rattle.sheet.specs.Check.{checkOf}
 use Rattle.sheet.specs.Read.{readAs, read, sheetOf}
 use Rattle.sheet.specs.Read.Read.{sound}
+use Rattle.sheet.specs.Refusals as sheet
 use Rattle.sheet.specs.Parts.{shapeOf}
 use Rattle.search.specs.declared.Searched.{Searched}
 use Rattle.search.specs.declared.Searched.the-variants as searched
-use Rattle.search.specs.Answer.{pinsNeeded, cellsNeeded, answerAs, answerIn, answerIf, searchedOf, Searches}
+use Rattle.search.specs.Answer.{pinsNeeded, cellsNeeded, answerAs, answerIn, answerIf, searchedOf, numberOf, densityOf, Searches}
 use Rattle.search.specs.Pair.{LongEnough}
 use Rattle.search.proofs.TwoSearches.{columns-found}
 use Rattle.report.specs.Text.{lines}
@@ -78,29 +82,62 @@ module _ (b : List ℕ) (k m d : ℕ) where
   unfolding searchedOf
   finds = by-check (checkOf b) refl
 
+-- an answer with the number 0 is a density; one with another number has the text of a refusal
+sheet-number : (why : Refusal) → sheet.numberOf why ≡ 0 → ⊥
+sheet-number refusals.Short e = omega arith
+sheet-number refusals.Mark e = omega arith
+sheet-number refusals.Length e = omega arith
+sheet-number refusals.Count e = omega arith
+sheet-number refusals.Layout e = omega arith
+sheet-number refusals.Net e = omega arith
+sheet-number refusals.Distance e = omega arith
+sheet-number refusals.Beyond e = omega arith
+
+zero-found : (r : Searched) → numberOf r ≡ 0 → r ≡ searched.Found (densityOf r)
+zero-found (searched.Found d) e = refl
+zero-found (searched.Sheet why) e = absurd (sheet-number why e)
+zero-found searched.Columns e = absurd (omega arith)
+zero-found searched.Cells e = absurd (omega arith)
+zero-found searched.NoAssignment e = absurd (omega arith)
+
+other-refused : (r : Searched) (s : Sheet) → (numberOf r ≡ 0 → ⊥) → refusal (numberOf r) ≡ answered r s
+other-refused (searched.Found d) s h = absurd (h refl)
+other-refused (searched.Sheet why) s h = refl
+other-refused searched.Columns s h = refl
+other-refused searched.Cells s h = refl
+other-refused searched.NoAssignment s h = refl
+
 -- the text of the answer of a search with so many column bytes and work cells
 module _ (input buffer work buffer' work' : List ℕ) (r : Searched) (searches : Searches input buffer work buffer' work' r)
     (columns : length buffer ≡ 128) (cells : length work ≡ 30000) (short : length input ≤ 1548)
   where
-    pub answer-text : (k : Searched) → r ≡ k → answered k (sheetOf input) ≡ printed input
+    answer-text : answered r (sheetOf input) ≡ printed input
     unfolding printed searchText
-    answer-text k e =
-        rw (le-ltb _ _ short, ← columns, ← cells) (ap (λ (j : Searched). answered j (sheetOf input)) (sym e ∙ searches .answer))
+    answer-text =
+        rw (le-ltb _ _ short, ← columns, ← cells) (ap (λ (k : Searched). answered k (sheetOf input)) (searches .answer))
 
-    module _ (d : ℕ) (e : r ≡ searched.Found d) where
-      found-best : Finds input (length buffer) (length work) d
-      found-best = finds input (length buffer) (length work) d (sym (searches .answer) ∙ e)
+    module _ (n : ℕ) (number : n ≡ numberOf r) where
+      pub refused-text : (n ≡ 0 → ⊥) → refusal n ≡ printed input
+      refused-text h = ap refusal number ∙ other-refused r (sheetOf input) (rw number at h) ∙ answer-text
 
-      pub found-pins : shapeOf input .pins ≤ 128
-      unfolding shapeOf
-      found-pins = rw (found-best .long .reads, ← columns) (found-best .long .pins)
+      module _ (d : ℕ) (density : d ≡ densityOf r) (none : n ≡ 0) where
+        is-found : r ≡ searched.Found d
+        is-found = zero-found r (sym number ∙ none) ∙ ap searched.Found (sym density)
 
-      pub found-text : headed d (lines (walkOf input) (take (shapeOf input .pins) buffer')) ≡ printed input
-      unfolding shapeOf walkOf
-      found-text =
-          let f = found-best in
-          rw (f .long .reads, columns-found input buffer work buffer' work' r searches (sheetOf input) (f .long) d (f .columns) (f .best))
-          (ap (result (sheetOf input)) (sym (f .best)) ∙ answer-text (searched.Found d) e)
+        found-best : Finds input (length buffer) (length work) d
+        found-best = finds input (length buffer) (length work) d (sym (searches .answer) ∙ is-found)
+
+        pub found-pins : shapeOf input .pins ≤ 128
+        unfolding shapeOf
+        found-pins = rw (found-best .long .reads, ← columns) (found-best .long .pins)
+
+        pub found-text : headed d (lines (walkOf input) (take (shapeOf input .pins) buffer')) ≡ printed input
+        unfolding shapeOf walkOf
+        found-text =
+            let f = found-best in
+            rw
+            (f .long .reads, columns-found input buffer work buffer' work' r searches (sheetOf input) (f .long) d (f .columns) (f .best))
+            (ap (result (sheetOf input)) (sym (f .best)) ∙ ap (λ (k : Searched). answered k (sheetOf input)) (sym is-found) ∙ answer-text)
 
 -- the text lies within the buffer
 pub text-fits : {input old new : List ℕ} {n : ℕ} → Prints input old new n → n ≤ length new

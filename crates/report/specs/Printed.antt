@@ -28,6 +28,7 @@ abbrev pub result : Sheet → Found → List ℕ
 result s none = refusal 11
 result s (found d cs) = headed d (lines (walk s) cs)
 
+-- the text of a search's answer
 abbrev pub answered : Searched → Sheet → List ℕ
 answered (searched.Found d) s = result s (best s)
 answered (searched.Sheet why) s = refusal (numberOf (searched.Sheet why))

@@ -3,8 +3,6 @@ mod lines;
 mod text;
 
 use lines::put_lines;
-use search::Searched;
-use sheet::number_of;
 use text::put_byte;
 use text::put_field;
 ghost use Prim.Native.Nat.{_+_, _*_, _≤_};
@@ -27,13 +25,11 @@ pub fn print(input: &[u8], out: &mut [u8; ROOM]) -> usize
     let mut columns = [0u8; 128];
     let mut work = [0u16; 30000];
     let answer = search::search(input, &mut columns, &mut work);
-    match answer {
-        Searched::Found(d) => put_result(input, d, &columns, out),
-        Searched::Sheet(why) => put_refusal(out, number_of(why) as usize),
-        Searched::Columns => put_refusal(out, 9),
-        Searched::Cells => put_refusal(out, 10),
-        Searched::NoAssignment => put_refusal(out, 11),
+    let number = search::number_of(answer);
+    if number == 0 {
+        return put_result(input, search::density_of(answer), &columns, out);
     }
+    put_refusal(out, number as usize)
 }
 
 // The single line of a refusal.

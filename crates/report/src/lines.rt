@@ -1,7 +1,6 @@
 // The lines of an assignment's terminals.
 use crate::text::put_byte;
 use crate::text::put_field;
-use sheet::Cursor;
 use sheet::Side;
 use sheet::Step;
 use sheet::Visit;
@@ -56,8 +55,7 @@ pub fn put_lines(s: &[u8], columns: &[u8], out: &mut [u8], at: usize) -> usize
     let mut end = at;
     let mut k = 0;
     while k < columns.len() {
-        let cursor = Cursor { passed: k };
-        let step = cursor.step(s);
+        let step = reader::read_at(s, k);
         end = put_step(out, end, step, columns[k]);
         k += 1;
     }

@@ -1,9 +1,12 @@
 // The search for the best assignment of a sheet.
+mod answer;
 mod pass;
 mod rules;
 mod solve;
 mod walk;
 
+pub use answer::density_of;
+pub use answer::number_of;
 use pass::Outcome;
 use sheet::Checked;
 use sheet::Refusal;
@@ -11,7 +14,7 @@ use sheet::Side;
 ghost use Rattle.search.specs.Answer.{Searches};
 ghost use Rattle.search.specs.Pair.{SearchesBoth};
 
-// The answer of a search; `numberOf` and `densityOf` of specs/Answer.antt give its number and its density.
+// The answer of a search; `number_of` and `density_of` give its number and its density.
 pub enum Searched {
     Found(u8),
     Sheet(Refusal),

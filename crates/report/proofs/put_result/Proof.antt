@@ -22,29 +22,42 @@ put-byte-requires c κs = search needs
 
 slice-aggregate-put-lines : tie.Need-slice-aggregate-put-lines
 slice-aggregate-put-lines c =
-    let pins = rw (← c .before .before .before .before .before .before .before .before .before .before .shape-of .ensures) at (c .before .before .before .before .before .before .before .before .before .before .before .before .before .before .pre .0) in
+    let at-shape-of = c .before .before .before .before .before .before .before .before .before .before in
+    let start = at-shape-of .before .before .before .before in
+    let pins = rw (← at-shape-of .shape-of .ensures) at (start .pre .0) in
     sym (length-take-le _ _ pins)
 
 put-lines-requires : tie.Need-put-lines-requires
 put-lines-requires c κs =
-    let pins = rw (← c .before .before .before .before .before .before .before .before .before .before .before .shape-of .ensures) at (c .before .before .before .before .before .before .before .before .before .before .before .before .before .before .before .pre .0) in
-    let room = c .before .before .before .before .before .before .before .before .before .before .before .before .before .before .before .pre .1 in
-    let start = c .before .before .before .before .put-byte .ensures in
-    let name = c .before .before .before .before .before .before .before .before .put-field .ensures in
-    rw (length-take-le _ _ pins) (omega (arith, start .place, name .1, kept start, kept (name .0)))
+    let at-put-byte = c .before .before .before .before in
+    let at-put-field = at-put-byte .before .before .before .before in
+    let at-shape-of = at-put-field .before .before .before in
+    let start = at-shape-of .before .before .before .before in
+    let pins = rw (← at-shape-of .shape-of .ensures) at (start .pre .0) in
+    let room = start .pre .1 in
+    let newline = at-put-byte .put-byte .ensures in
+    let name = at-put-field .put-field .ensures in
+    rw (length-take-le _ _ pins) (omega (arith, newline .place, name .1, kept newline, kept (name .0)))
 
 same-length : tie.Need-same-length
 same-length c = search needs
 
 returns : tie.Need-returns
 returns c =
-    let shape = c .before .before .before .before .before .before .before .before .before .before .before .before .before .before .shape-of .ensures in
-    let name = c .before .before .before .before .before .before .before .before .before .before .before .put-field .ensures in
-    let start = c .before .before .before .before .before .before .before .put-byte .ensures in
+    let at-put-byte = c .before .before .before .before .before .before .before in
+    let at-put-field = at-put-byte .before .before .before .before in
+    let at-shape-of = at-put-field .before .before .before in
+    let start = at-shape-of .before .before .before .before in
+    let shape = at-shape-of .shape-of .ensures in
+    let name = at-put-field .put-field .ensures in
+    let newline = at-put-byte .put-byte .ensures in
     let rest = c .before .before .put-lines .ensures in
-    let a = c .before .before .before .before .before .before .before .before .before .before .before .before .before .before .before .before .before .before .args in
-    let fits = rw (← shape) at (c .before .before .before .before .before .before .before .before .before .before .before .before .before .before .before .before .before .before .pre .0) in
-    rw (← shape) (after (name .0) (after start (rest .0)), omega (arith, fits, length-take-le _ (a .columns .now) fits, name .1, start .place, rest .1))
+    let a = start .args in
+    let fits = rw (← shape) at (start .pre .0) in
+    rw (← shape) (
+      after (name .0) (after newline (rest .0)),
+      omega (arith, fits, length-take-le _ (a .columns .now) fits, name .1, newline .place, rest .1),
+    )
 
 pub put-result-spec : {M : Type 1} → statement M
 put-result-spec =

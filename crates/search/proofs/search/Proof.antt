@@ -15,7 +15,11 @@ enum-known-checked c = search needs
 
 -- src/lib.rt:29:9
 returns : tie.Need-returns
-returns c = answers-sheet (c .before .before .before .before .before .before .before .args .s .now) (c .before .before .before .before .before .before .before .args .columns .now) (c .before .before .before .before .before .before .before .args .work .now) _ _ (c .before .before .before .check .ensures) (c .before .checked .given .1)
+returns c =
+    let at-check = c .before .before .before in
+    let start = at-check .before .before .before .before in
+    let a = start .args in
+    answers-sheet (a .s .now) (a .columns .now) (a .work .now) _ _ (at-check .check .ensures) (c .before .checked .given .1)
 
 enum-told : tie.Need-enum-told
 enum-told c = search needs
@@ -26,11 +30,24 @@ shape-of-requires c κs = search needs
 
 -- src/lib.rt:33:9
 returns-2 : tie.Need-returns-2
-returns-2 c = answers-columns (c .before .before .before .before .before .before .before .before .before .args .s .now) (c .before .before .before .before .before .before .before .before .before .args .columns .now) (c .before .before .before .before .before .before .before .before .before .args .work .now) _ (c .before .before .shape-of .result) (c .before .before .before .before .before .check .ensures) (c .before .before .before .enum-told .given .1) (c .before .before .shape-of .ensures) (c .if1 .taken)
+returns-2 c =
+    let at-enum-told = c .before .before .before in
+    let at-check = at-enum-told .before .before in
+    let start = at-check .before .before .before .before in
+    let a = start .args in
+    answers-columns (a .s .now) (a .columns .now) (a .work .now) _ (c .before .before .shape-of .result) (at-check .check .ensures)
+    (at-enum-told .enum-told .given .1) (c .before .before .shape-of .ensures) (c .if1 .taken)
 
 -- src/lib.rt:36:9
 returns-3 : tie.Need-returns-3
-returns-3 c = answers-cells (c .before .before .before .before .before .before .before .before .before .before .before .args .s .now) (c .before .before .before .before .before .before .before .before .before .before .before .args .columns .now) (c .before .before .before .before .before .before .before .before .before .before .before .args .work .now) _ (c .before .before .before .before .shape-of .result) (c .before .before .before .before .before .before .before .check .ensures) (c .before .before .before .before .before .enum-told .given .1) (c .before .before .before .before .shape-of .ensures) (c .before .before .if1 .left) (c .if2 .taken)
+returns-3 c =
+    let at-shape-of = c .before .before .before .before in
+    let at-enum-told = at-shape-of .before in
+    let at-check = at-enum-told .before .before in
+    let start = at-check .before .before .before .before in
+    let a = start .args in
+    answers-cells (a .s .now) (a .columns .now) (a .work .now) _ (at-shape-of .shape-of .result) (at-check .check .ensures)
+    (at-enum-told .enum-told .given .1) (at-shape-of .shape-of .ensures) (c .before .before .if1 .left) (c .if2 .taken)
 
 -- src/lib.rt:38:9
 section-requires : tie.Need-section-requires
@@ -42,7 +59,18 @@ section-requires-2 c κs = search needs
 
 -- src/lib.rt:40:9
 solve-requires : tie.Need-solve-requires
-solve-requires c κs = solve-asked (c .before .before .before .before .before .before .before .before .before .before .before .before .before .before .before .args .s .now) (c .before .before .before .before .before .before .before .before .before .before .before .before .before .before .before .args .columns .now) (c .before .before .before .before .before .before .before .before .before .before .before .before .before .before .before .args .work .now) _ (c .before .before .before .before .before .before .before .before .shape-of .result) (c .before .before .before .before .before .before .before .before .before .before .before .check .ensures) (c .before .before .before .before .before .before .before .before .before .enum-told .given .1) (c .before .before .before .before .before .before .before .before .shape-of .ensures) _ _ (c .before .before .before .section .ensures) (c .before .before .section2 .ensures) (c .before .before .before .before .before .before .if1 .left) (c .before .before .before .before .if2 .left)
+solve-requires c κs =
+    let at-section = c .before .before .before in
+    let at-if2 = at-section .before in
+    let at-if1 = at-if2 .before .before in
+    let at-shape-of = at-if1 .before .before in
+    let at-enum-told = at-shape-of .before in
+    let at-check = at-enum-told .before .before in
+    let start = at-check .before .before .before .before in
+    let a = start .args in
+    solve-asked (a .s .now) (a .columns .now) (a .work .now) _ (at-shape-of .shape-of .result) (at-check .check .ensures)
+    (at-enum-told .enum-told .given .1) (at-shape-of .shape-of .ensures) _ _ (at-section .section .ensures)
+    (c .before .before .section2 .ensures) (at-if1 .if1 .left) (at-if2 .if2 .left)
 
 -- src/lib.rt:41:5
 clear-requires : tie.Need-clear-requires
@@ -66,7 +94,21 @@ same-length-2 c = search needs
 
 -- src/lib.rt:24:1
 returns-4 : tie.Need-returns-4
-returns-4 c = answers-found (c .before .before .before .before .before .before .before .before .before .before .before .before .before .before .before .before .before .before .before .before .before .before .before .before .before .before .before .args .s .now) (c .before .before .before .before .before .before .before .before .before .before .before .before .before .before .before .before .before .before .before .before .before .before .before .before .before .before .before .args .columns .now) (c .before .before .before .before .before .before .before .before .before .before .before .before .before .before .before .before .before .before .before .before .before .before .before .before .before .before .before .args .work .now) _ (c .before .before .before .before .before .before .before .before .before .before .before .before .before .before .before .before .before .before .before .before .shape-of .result) (c .before .before .before .before .before .before .before .before .before .before .before .before .before .before .before .before .before .before .before .before .before .before .before .check .ensures) (c .before .before .before .before .before .before .before .before .before .before .before .before .before .before .before .before .before .before .before .before .before .enum-told .given .1) (c .before .before .before .before .before .before .before .before .before .before .before .before .before .before .before .before .before .before .before .before .shape-of .ensures) _ _ (c .before .before .before .before .before .before .before .before .before .before .before .before .before .before .before .section .ensures) (c .before .before .before .before .before .before .before .before .before .before .before .before .before .before .section2 .ensures) (c .before .before .before .before .before .before .before .before .before .before .before .before .before .before .before .before .before .before .if1 .left) (c .before .before .before .before .before .before .before .before .before .before .before .before .before .before .before .before .if2 .left) _ _ _ _ (c .before .before .before .before .before .before .before .before .before .before .before .solve .ensures) (c .before .before .before .before .before .clear .ensures) _ (c .before .outcome .given .1)
+returns-4 c =
+    let at-clear = c .before .before .before .before .before in
+    let at-solve = at-clear .before .before .before .before .before .before in
+    let at-section2 = at-solve .before .before .before in
+    let at-section = at-section2 .before in
+    let at-if2 = at-section .before in
+    let at-if1 = at-if2 .before .before in
+    let at-shape-of = at-if1 .before .before in
+    let at-enum-told = at-shape-of .before in
+    let at-check = at-enum-told .before .before in
+    let start = at-check .before .before .before .before in
+    let a = start .args in
+    answers-found (a .s .now) (a .columns .now) (a .work .now) _ (at-shape-of .shape-of .result) (at-check .check .ensures)
+    (at-enum-told .enum-told .given .1) (at-shape-of .shape-of .ensures) _ _ (at-section .section .ensures) (at-section2 .section2 .ensures)
+    (at-if1 .if1 .left) (at-if2 .if2 .left) _ _ _ _ (at-solve .solve .ensures) (at-clear .clear .ensures) _ (c .before .outcome .given .1)
 
 -- src/lib.rt:24:1
 same-length-3 : tie.Need-same-length-3
@@ -78,7 +120,21 @@ same-length-4 c = search needs
 
 -- src/lib.rt:24:1
 returns-5 : tie.Need-returns-5
-returns-5 c = answers-none (c .before .before .before .before .before .before .before .before .before .before .before .before .before .before .before .before .before .before .before .before .before .before .before .before .before .before .args .s .now) (c .before .before .before .before .before .before .before .before .before .before .before .before .before .before .before .before .before .before .before .before .before .before .before .before .before .before .args .columns .now) (c .before .before .before .before .before .before .before .before .before .before .before .before .before .before .before .before .before .before .before .before .before .before .before .before .before .before .args .work .now) _ (c .before .before .before .before .before .before .before .before .before .before .before .before .before .before .before .before .before .before .before .shape-of .result) (c .before .before .before .before .before .before .before .before .before .before .before .before .before .before .before .before .before .before .before .before .before .before .check .ensures) (c .before .before .before .before .before .before .before .before .before .before .before .before .before .before .before .before .before .before .before .before .enum-told .given .1) (c .before .before .before .before .before .before .before .before .before .before .before .before .before .before .before .before .before .before .before .shape-of .ensures) _ _ (c .before .before .before .before .before .before .before .before .before .before .before .before .before .before .section .ensures) (c .before .before .before .before .before .before .before .before .before .before .before .before .before .section2 .ensures) (c .before .before .before .before .before .before .before .before .before .before .before .before .before .before .before .before .before .if1 .left) (c .before .before .before .before .before .before .before .before .before .before .before .before .before .before .before .if2 .left) _ _ _ _ (c .before .before .before .before .before .before .before .before .before .before .solve .ensures) (c .before .before .before .before .clear .ensures) (c .enum-told2 .given .1)
+returns-5 c =
+    let at-clear = c .before .before .before .before in
+    let at-solve = at-clear .before .before .before .before .before .before in
+    let at-section2 = at-solve .before .before .before in
+    let at-section = at-section2 .before in
+    let at-if2 = at-section .before in
+    let at-if1 = at-if2 .before .before in
+    let at-shape-of = at-if1 .before .before in
+    let at-enum-told = at-shape-of .before in
+    let at-check = at-enum-told .before .before in
+    let start = at-check .before .before .before .before in
+    let a = start .args in
+    answers-none (a .s .now) (a .columns .now) (a .work .now) _ (at-shape-of .shape-of .result) (at-check .check .ensures)
+    (at-enum-told .enum-told .given .1) (at-shape-of .shape-of .ensures) _ _ (at-section .section .ensures) (at-section2 .section2 .ensures)
+    (at-if1 .if1 .left) (at-if2 .if2 .left) _ _ _ _ (at-solve .solve .ensures) (at-clear .clear .ensures) (c .enum-told2 .given .1)
 
 pub search-spec : {M : Type 1} → statement M
 search-spec =

@@ -30,10 +30,12 @@ same-length-4 c = search needs
 -- src/lib.rt:57:1
 returns : tie.Need-returns
 returns c =
+    let at-search2 = c .before .before .before .before in
+    let at-search = at-search2 .before .before .before .before .before .before .before in
     record {
-      first = c .before .before .before .before .before .before .before .before .before .before .before .search .ensures;
-      second = c .before .before .before .before .search2 .ensures;
-      kept = two-searches _ _ _ _ _ _ _ _ _ _ _ _ (c .before .before .before .before .before .before .before .before .before .before .before .search .ensures) (c .before .before .before .before .search2 .ensures);
+      first = at-search .search .ensures;
+      second = at-search2 .search2 .ensures;
+      kept = two-searches _ _ _ _ _ _ _ _ _ _ _ _ (at-search .search .ensures) (at-search2 .search2 .ensures);
     }
 
 pub search-both-spec : {M : Type 1} → statement M

@@ -46,12 +46,17 @@ same-length c = search needs
 returns : tie.Need-returns
 unfolding line
 returns c =
-    let side = c .before .before .before .before .before .before .before .before .before .before .before .before .before .before .before .before .before .before .before .before .before .before .put-byte in
-    let place = c .before .before .before .before .before .before .before .before .before .before .before .before .before .before .before .before .before .put-field in
-    let net = c .before .before .before .before .before .before .before .before .before .before .before .put-field2 in
-    let col = c .before .before .before .before .before .before .put-field3 in
+    let at-put-field3 = c .before .before .before .before .before .before in
+    let at-put-field2 = at-put-field3 .before .before .before .before .before in
+    let at-put-field = at-put-field2 .before .before .before .before .before .before in
+    let at-put-byte = at-put-field .before .before .before .before .before in
+    let at-letter = at-put-byte .before in
+    let side = at-put-byte .put-byte in
+    let place = at-put-field .put-field in
+    let net = at-put-field2 .put-field2 in
+    let col = at-put-field3 .put-field3 in
     let end = c .before .before .put-byte2 in
-    let letter = same-text (ap (λ (l : ℕ). l ∷ []) (c .before .before .before .before .before .before .before .before .before .before .before .before .before .before .before .before .before .before .before .before .before .before .before .letter .ensures)) (side .ensures) in (
+    let letter = same-text (ap (λ (l : ℕ). l ∷ []) (at-letter .letter .ensures)) (side .ensures) in (
       after letter (after (place .ensures .0) (after (net .ensures .0) (after (col .ensures .0) (end .ensures)))),
       omega (arith, side .ensures .place, place .ensures .1, net .ensures .1, col .ensures .1, end .ensures .place),
     )

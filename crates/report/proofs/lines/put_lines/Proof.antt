@@ -21,8 +21,8 @@ abbrev μ-loop : tie.MeasureT-loop
 loop-holds : tie.Need-loop-holds Inv-loop μ-loop
 loop-holds c = (wrote-nothing _ _, omega arith, omega arith)
 
-step-requires : tie.Need-step-requires Inv-loop μ-loop
-step-requires c κs = search needs
+read-at-requires : tie.Need-read-at-requires Inv-loop μ-loop
+read-at-requires c κs = search needs
 
 shared-slice-read-put-step : tie.Need-shared-slice-read-put-step Inv-loop μ-loop
 shared-slice-read-put-step c = search needs
@@ -38,10 +38,14 @@ loop-less c = search needs
 
 loop-again : tie.Need-loop-again Inv-loop μ-loop
 loop-again c =
-    let l = c .before .before .before .before .before .before .before .loop in
-    let a = c .before .before .before .before .before .before .before .before .before .before .before .args in
+    let at-read-at = c .before .before .before .before .before in
+    let at-loop-test = at-read-at .before in
+    let at-loop = at-loop-test .before in
+    let start = at-loop .before .before .before .before in
+    let l = at-loop .loop in
+    let a = start .args in
     let put = c .before .before .put-step in
-    let line = next-line (a .s .now) (a .columns .now) (l .k) _ (c .before .before .before .before .before .step .ensures) (c .before .before .before .before .before .before .loop-test .taken) in
+    let line = next-line (a .s .now) (a .columns .now) (l .k) _ (at-read-at .read-at .ensures) (at-loop-test .loop-test .taken) in
     (same-text line (after (l .inv .0) (put .ensures .0)), omega (arith, put .ensures .1), omega arith)
 
 same-length : tie.Need-same-length Inv-loop μ-loop
@@ -57,7 +61,7 @@ put-lines-spec =
     Inv-loop
     μ-loop
     loop-holds
-    step-requires
+    read-at-requires
     shared-slice-read-put-step
     put-step-requires
     add-k

@@ -38,28 +38,48 @@ module _ (t : ℕ) where
   same-length c = kept (c .before .before .put-byte .ensures)
 
   returns-2 : put-digits-lts.Need-returns-2 (digit-reads.Asked, digit-reads.Learnt, put-byte-reads.Asked, put-byte-reads.Learnt, put-digits-below t, put-digits.Post) (put-digits-at t) put-digits.Post
-  returns-2 c = wrote-digit _ _ _ (c .before .before .before .before .before .before .if1 .left) (c .before .before .before .before .before .if2 .taken) (c .before .before .before .digit .ensures) (c .before .before .put-byte .ensures)
+  returns-2 c =
+      let at-digit = c .before .before .before in
+      let at-if2 = at-digit .before .before in
+      let at-if1 = at-if2 .before in
+      wrote-digit _ _ _ (at-if1 .if1 .left) (at-if2 .if2 .taken) (at-digit .digit .ensures) (c .before .before .put-byte .ensures)
 
   sub-put-digits : put-digits-lts.Need-sub-put-digits (digit-reads.Asked, digit-reads.Learnt, put-byte-reads.Asked, put-byte-reads.Learnt, put-digits-below t, put-digits.Post) (put-digits-at t) put-digits.Post
   sub-put-digits c = let h = c .before .before .if1 .left in omega arith
 
   put-digits-requires : put-digits-lts.Need-put-digits-requires (digit-reads.Asked, digit-reads.Learnt, put-byte-reads.Asked, put-byte-reads.Learnt, put-digits-below t, put-digits.Post) (put-digits-at t) put-digits.Post
-  put-digits-requires c κs = let h = c .before .before .if1 .left in let e = c .before .before .before .before .pre .0 in let g = c .before .before .before .before .pre .1 in (omega arith, omega arith)
+  put-digits-requires c κs =
+      let start = c .before .before .before .before in
+      let h = c .before .before .if1 .left in let e = start .pre .0 in let g = start .pre .1 in (omega arith, omega arith)
 
   digit-requires-2 : put-digits-lts.Need-digit-requires-2 (digit-reads.Asked, digit-reads.Learnt, put-byte-reads.Asked, put-byte-reads.Learnt, put-digits-below t, put-digits.Post) (put-digits-at t) put-digits.Post
   digit-requires-2 c κs = omega arith
 
   put-byte-requires-2 : put-digits-lts.Need-put-byte-requires-2 (digit-reads.Asked, digit-reads.Learnt, put-byte-reads.Asked, put-byte-reads.Learnt, put-digits-below t, put-digits.Post) (put-digits-at t) put-digits.Post
-  put-byte-requires-2 c κs = let w = c .before .before .before .before .put-digits .ensures in let l = kept w in let m = digits-at-most (c .before .before .before .before .before .before .before .before .before .args .most - 1) (c .before .before .before .before .before .before .before .before .before .args .n / 10) in let h = c .before .before .before .before .before .before .before .if1 .left in let g = c .before .before .before .before .before .before .before .before .before .pre .1 in let e = w .place in omega arith
+  put-byte-requires-2 c κs =
+      let at-put-digits = c .before .before .before .before in
+      let at-if1 = at-put-digits .before .before .before in
+      let start = at-if1 .before .before in
+      let a = start .args in
+      let w = at-put-digits .put-digits .ensures in let l = kept w in let m = digits-at-most (a .most - 1)
+      (a .n / 10) in let h = at-if1 .if1 .left in let g = start .pre .1 in let e = w .place in omega arith
 
   same-length-2 : put-digits-lts.Need-same-length-2 (digit-reads.Asked, digit-reads.Learnt, put-byte-reads.Asked, put-byte-reads.Learnt, put-digits-below t, put-digits.Post) (put-digits-at t) put-digits.Post
   same-length-2 c = kept (c .before .before .put-byte2 .ensures) ∙ kept (c .before .before .before .before .before .before .before .put-digits .ensures)
 
   returns-3 : put-digits-lts.Need-returns-3 (digit-reads.Asked, digit-reads.Learnt, put-byte-reads.Asked, put-byte-reads.Learnt, put-digits-below t, put-digits.Post) (put-digits-at t) put-digits.Post
-  returns-3 c = wrote-digits _ _ _ (c .before .before .before .before .before .before .before .before .before .before .if1 .left) (c .before .before .before .before .before .before .before .before .before .if2 .left) (c .before .before .before .digit2 .ensures) (c .before .before .before .before .before .before .before .put-digits .ensures) (c .before .before .put-byte2 .ensures)
+  returns-3 c =
+      let at-digit2 = c .before .before .before in
+      let at-put-digits = at-digit2 .before .before .before .before in
+      let at-if2 = at-put-digits .before .before in
+      let at-if1 = at-if2 .before in
+      wrote-digits _ _ _ (at-if1 .if1 .left) (at-if2 .if2 .left) (at-digit2 .digit2 .ensures) (at-put-digits .put-digits .ensures)
+      (c .before .before .put-byte2 .ensures)
 
 pub +put-digits-spec : {M : Type 1} → statement M
 +put-digits-spec =
     close μ-put-digits
-    (λ t. put-digits-lts.spec (digit-reads.Asked, digit-reads.Learnt, put-byte-reads.Asked, put-byte-reads.Learnt, put-digits-below t, put-digits.Post)
-    (put-digits-at t) put-digits.Post (returns t) (digit-requires t) (put-byte-requires t) (same-length t) (returns-2 t) (sub-put-digits t) (put-digits-requires t) (digit-requires-2 t) (put-byte-requires-2 t) (same-length-2 t) (returns-3 t))
+    (λ t. put-digits-lts.spec
+    (digit-reads.Asked, digit-reads.Learnt, put-byte-reads.Asked, put-byte-reads.Learnt, put-digits-below t, put-digits.Post)
+    (put-digits-at t) put-digits.Post (returns t) (digit-requires t) (put-byte-requires t) (same-length t) (returns-2 t) (sub-put-digits t)
+    (put-digits-requires t) (digit-requires-2 t) (put-byte-requires-2 t) (same-length-2 t) (returns-3 t))

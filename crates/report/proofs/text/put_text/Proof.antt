@@ -36,10 +36,17 @@ loop-less c = search needs
 
 loop-again : tie.Need-loop-again Inv-loop μ-loop
 loop-again c =
-    let l = c .before .before .before .before .before .before .loop in
-    let text = c .before .before .before .before .before .before .before .before .before .args .text .now in
-    let less = c .before .before .before .before .before .loop-test .taken in
-    (same-text (sym (ap (λ (k : ℕ). take k text) (add-one (l .k)) ∙ take-suc text (l .k) 0 less)) (after (l .inv .0) (c .before .before .put-byte .ensures)), c .before .before .put-byte .ensures .place ∙ omega arith, omega arith)
+    let at-loop-test = c .before .before .before .before .before in
+    let at-loop = at-loop-test .before in
+    let start = at-loop .before .before .before in
+    let l = at-loop .loop in
+    let text = start .args .text .now in
+    let less = at-loop-test .loop-test .taken in (
+      same-text (sym (ap (λ (k : ℕ). take k text) (add-one (l .k)) ∙ take-suc text (l .k) 0 less))
+          (after (l .inv .0) (c .before .before .put-byte .ensures)),
+      c .before .before .put-byte .ensures .place ∙ omega arith,
+      omega arith,
+    )
 
 same-length : tie.Need-same-length Inv-loop μ-loop
 same-length c = kept (c .before .loop .inv .0)

@@ -32,7 +32,9 @@ add-middle c = omega (arith, c .loop-test .taken, c .before .loop .inv .0 .top)
 
 -- src/pass.rt:59:13
 try-bound-requires : tie.Need-try-bound-requires Inv-loop μ-loop
-try-bound-requires c κs = (c .before .before .before .before .before .before .pre .0, lies-kept _ _ _ _ _ _ (c .before .before .loop .inv .1) (c .before .before .before .before .before .before .pre .1), c .before .before .before .before .before .before .pre .2, c .before .before .before .before .before .before .pre .3)
+try-bound-requires c κs =
+    let start = c .before .before .before .before .before .before in
+    (start .pre .0, lies-kept _ _ _ _ _ _ (c .before .before .loop .inv .1) (start .pre .1), start .pre .2, start .pre .3)
 
 -- src/pass.rt:60:9
 pick-requires : tie.Need-pick-requires Inv-loop μ-loop
@@ -48,17 +50,28 @@ pick-requires-2 c κs = search needs
 
 -- src/pass.rt:57:5
 loop-less : tie.Need-loop-less Inv-loop μ-loop
-loop-less c = rw (c .pick2 .ensures, c .before .pick .ensures) (between-falls (c .before .before .before .before .before .before .before .loop .low) (c .before .before .before .before .before .before .before .loop .high) (c .before .before .before .before .before .before .before .loop .low + (c .before .before .before .before .before .before .before .loop .high - c .before .before .before .before .before .before .before .loop .low) / 2) (c .before .before .before .before .try-bound .result) (omega (arith, c .before .before .before .before .before .before .loop-test .taken)) (omega (arith, c .before .before .before .before .before .before .loop-test .taken)))
+loop-less c =
+    let at-try-bound = c .before .before .before .before in
+    let at-loop-test = at-try-bound .before .before in
+    let at-loop = at-loop-test .before in
+    rw (c .pick2 .ensures, c .before .pick .ensures) (between-falls (at-loop .loop .low) (at-loop .loop .high)
+    (at-loop .loop .low + (at-loop .loop .high - at-loop .loop .low) / 2) (at-try-bound .try-bound .result)
+    (omega (arith, at-loop-test .loop-test .taken)) (omega (arith, at-loop-test .loop-test .taken)))
 
 -- src/pass.rt:57:5
 loop-again : tie.Need-loop-again Inv-loop μ-loop
 loop-again c =
-    let a = c .before .before .before .before .before .before .before .before .before .before .before .args in
-    let o = c .before .before .before .before .before .before .before .loop in (
+    let at-try-bound = c .before .before .before .before in
+    let at-loop-test = at-try-bound .before .before in
+    let at-loop = at-loop-test .before in
+    let start = at-loop .before .before .before .before in
+    let a = start .args in
+    let o = at-loop .loop in (
       rw (c .pick2 .ensures, c .before .pick .ensures)
-          (between-more (placeable (a .rules .now) (a .loads .now) (a .plan)) (c .before .before .before .before .before .before .before .before .before .before .before .pre .5) (o .low) (o .high) _ _ (omega arith) (omega (arith, c .before .before .before .before .before .before .loop-test .taken)) (c .before .before .before .before .try-bound .ensures .answer) (o .inv .0)),
-      c .before .before .before .before .try-bound .ensures .table .kept ∙ o .inv .1,
-      c .before .before .before .before .try-bound .ensures .table .behind ∙ o .inv .2,
+          (between-more (placeable (a .rules .now) (a .loads .now) (a .plan)) (start .pre .5) (o .low) (o .high) _ _ (omega arith)
+          (omega (arith, at-loop-test .loop-test .taken)) (at-try-bound .try-bound .ensures .answer) (o .inv .0)),
+      at-try-bound .try-bound .ensures .table .kept ∙ o .inv .1,
+      at-try-bound .try-bound .ensures .table .behind ∙ o .inv .2,
     )
 
 -- src/pass.rt:51:1

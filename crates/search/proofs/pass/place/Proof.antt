@@ -12,7 +12,17 @@ try-bound-requires c κs = search needs
 
 -- src/pass.rt:72:13
 least-requires : tie.Need-least-requires
-least-requires c κs = (c .before .before .before .before .before .before .before .before .before .before .pre .0, lies-kept _ _ _ _ _ _ (c .before .before .before .before .try-bound .ensures .table .kept) (c .before .before .before .before .before .before .before .before .before .before .pre .1), c .before .before .before .before .before .before .before .before .before .before .pre .2, c .before .before .before .before .before .before .before .before .before .before .pre .3, sym (c .before .before .before .before .try-bound .ensures .answer) ∙ c .before .if1 .taken, c .before .before .before .before .before .before .before .before .before .before .pre .5)
+least-requires c κs =
+    let at-try-bound = c .before .before .before .before in
+    let start = at-try-bound .before .before .before .before .before .before in (
+      start .pre .0,
+      lies-kept _ _ _ _ _ _ (at-try-bound .try-bound .ensures .table .kept) (start .pre .1),
+      start .pre .2,
+      start .pre .3,
+      sym
+          (at-try-bound .try-bound .ensures .answer) ∙ c .before .if1 .taken,
+      start .pre .5,
+    )
 
 -- src/pass.rt:73:9
 fill-requires : tie.Need-fill-requires
@@ -33,10 +43,13 @@ same-length-2 c = search needs
 -- src/pass.rt:75:9
 returns : tie.Need-returns
 returns c =
+    let at-fill = c .before .before .before .before .before .before .before in
+    let at-least = at-fill .before .before .before .before in
+    let at-try-bound = at-least .before .before .before .before .before in
     record {
-      came = (c .before .before .before .before .before .before .before .before .before .before .before .least .ensures .least, filled-here _ _ _ _ _ _ _ _ _ (c .before .before .before .before .before .before .before .fill .ensures), c .before .before .walk .ensures);
-      kept = c .before .before .before .before .before .before .before .fill .ensures .kept ∙ c .before .before .before .before .before .before .before .before .before .before .before .least .ensures .kept ∙ c .before .before .before .before .before .before .before .before .before .before .before .before .before .before .before .before .try-bound .ensures .table .kept;
-      behind = c .before .before .before .before .before .before .before .fill .ensures .behind ∙ c .before .before .before .before .before .before .before .before .before .before .before .least .ensures .behind ∙ c .before .before .before .before .before .before .before .before .before .before .before .before .before .before .before .before .try-bound .ensures .table .behind;
+      came = (at-least .least .ensures .least, filled-here _ _ _ _ _ _ _ _ _ (at-fill .fill .ensures), c .before .before .walk .ensures);
+      kept = at-fill .fill .ensures .kept ∙ at-least .least .ensures .kept ∙ at-try-bound .try-bound .ensures .table .kept;
+      behind = at-fill .fill .ensures .behind ∙ at-least .least .ensures .behind ∙ at-try-bound .try-bound .ensures .table .behind;
     }
 
 -- src/pass.rt:67:1

@@ -19,11 +19,25 @@ mul-base c = search needs
 
 -- src/pass.rt:40:34
 mul-base-2 : tie.Need-mul-base-2
-mul-base-2 c = omega (arith, base-room (c .before .before .before .before .before .before .before .before .before .before .args .work .now) (c .before .before .before .before .before .before .before .before .before .before .args .rules .now) (c .before .before .before .before .before .before .before .before .before .before .args .plan .grid) (c .before .before .before .before .before .before .before .before .before .before .args .plan .p) (c .before .before .before .before .before .before .before .before .before .before .args .plan .q) (c .before .before .before .before .before .before .before .before .before .before .pre .1) (c .before .before .before .before .before .before .before .before .before .before .args .plan .p) (c .before .before .before .before .before .before .before .before .before .before .args .plan .q) (le-refl (c .before .before .before .before .before .before .before .before .before .before .args .plan .p)) (le-refl (c .before .before .before .before .before .before .before .before .before .before .args .plan .q)))
+mul-base-2 c =
+    let start = c .before .before .before .before .before .before .before .before .before .before in
+    let a = start .args in
+    omega (
+      arith,
+      base-room (a .work .now) (a .rules .now) (a .plan .grid) (a .plan .p) (a .plan .q) (start .pre .1) (a .plan .p)
+          (a .plan .q) (le-refl (a .plan .p)) (le-refl (a .plan .q)),
+    )
 
 -- src/pass.rt:40:16
 add-base : tie.Need-add-base
-add-base c = omega (arith, base-room (c .before .before .before .before .before .before .before .before .before .before .args .work .now) (c .before .before .before .before .before .before .before .before .before .before .args .rules .now) (c .before .before .before .before .before .before .before .before .before .before .args .plan .grid) (c .before .before .before .before .before .before .before .before .before .before .args .plan .p) (c .before .before .before .before .before .before .before .before .before .before .args .plan .q) (c .before .before .before .before .before .before .before .before .before .before .pre .1) (c .before .before .before .before .before .before .before .before .before .before .args .plan .p) (c .before .before .before .before .before .before .before .before .before .before .args .plan .q) (le-refl (c .before .before .before .before .before .before .before .before .before .before .args .plan .p)) (le-refl (c .before .before .before .before .before .before .before .before .before .before .args .plan .q)))
+add-base c =
+    let start = c .before .before .before .before .before .before .before .before .before .before in
+    let a = start .args in
+    omega (
+      arith,
+      base-room (a .work .now) (a .rules .now) (a .plan .grid) (a .plan .p) (a .plan .q) (start .pre .1) (a .plan .p)
+          (a .plan .q) (le-refl (a .plan .p)) (le-refl (a .plan .q)),
+    )
 
 -- src/pass.rt:41:26
 sub-meets : tie.Need-sub-meets
@@ -43,7 +57,23 @@ below-requires c κs = search needs
 
 -- src/pass.rt:41:5
 meets-requires : tie.Need-meets-requires
-meets-requires c κs = (omega (arith, base-room (c .before .before .before .before .before .before .before .before .before .before .before .before .before .before .args .work .now) (c .before .before .before .before .before .before .before .before .before .before .before .before .before .before .args .rules .now) (c .before .before .before .before .before .before .before .before .before .before .before .before .before .before .args .plan .grid) (c .before .before .before .before .before .before .before .before .before .before .before .before .before .before .args .plan .p) (c .before .before .before .before .before .before .before .before .before .before .before .before .before .before .args .plan .q) (c .before .before .before .before .before .before .before .before .before .before .before .before .before .before .pre .1) (c .before .before .before .before .before .before .before .before .before .before .before .before .before .before .args .plan .p) (c .before .before .before .before .before .before .before .before .before .before .before .before .before .before .args .plan .q) (le-refl (c .before .before .before .before .before .before .before .before .before .before .before .before .before .before .args .plan .p)) (le-refl (c .before .before .before .before .before .before .before .before .before .before .before .before .before .before .args .plan .q)), c .before .before .before .before .before .before .before .before .fill .ensures .kept, c .before .before .before .before .before .before .before .before .before .before .before .before .before .before .pre .1 .sizes .rows .0, c .before .before .before .before .before .before .before .before .before .before .before .before .before .before .pre .1 .rows), omega arith, omega (arith, c .before .before .before .before .before .before .before .before .before .before .before .before .before .before .pre .1 .sizes .rows .1))
+meets-requires c κs =
+    let at-fill = c .before .before .before .before .before .before .before .before in
+    let start = at-fill .before .before .before .before .before .before in
+    let a = start .args in (
+      omega (
+        arith,
+        base-room (a .work .now) (a .rules .now) (a .plan .grid) (a .plan .p) (a .plan .q) (start .pre .1) (a .plan .p)
+            (a .plan .q) (le-refl (a .plan .p)) (le-refl
+            (a .plan .q)),
+        at-fill .fill .ensures .kept,
+        start .pre .1 .sizes .rows .0,
+        start .pre .1 .rows,
+      ),
+      omega arith,
+      omega
+          (arith, start .pre .1 .sizes .rows .1),
+    )
 
 -- src/pass.rt:32:1
 same-length : tie.Need-same-length
@@ -52,13 +82,16 @@ same-length c = search needs
 -- src/pass.rt:32:1
 returns : tie.Need-returns
 returns c =
-    let a = c .before .before .before .before .before .before .before .before .before .before .before .before .before .before .before .args in
+    let at-fill = c .before .before .before .before .before .before .before .before .before in
+    let start = at-fill .before .before .before .before .before .before in
+    let a = start .args in
     record {
       answer =
           c .meets .ensures
-          ∙ last-plane (a .rules .now) (a .loads .now) (a .plan) (a .bound) _ _ _ _ _ (c .before .before .before .before .before .before .before .before .before .fill .ensures) (omega (arith, c .before .before .before .before .before .before .before .before .before .before .before .before .before .before .before .pre .1 .bottoms)) (c .before .before .before .before .before .before .before .before .before .before .before .before .before .before .before .pre .1 .sizes .rows .1)
-          (c .before .below .ensures) refl (omega (arith, c .before .before .before .before .before .before .before .before .before .before .before .before .before .before .before .pre .1 .rows));
-      table = c .before .before .before .before .before .before .before .before .before .fill .ensures;
+          ∙ last-plane (a .rules .now) (a .loads .now) (a .plan) (a .bound) _ _ _ _ _ (at-fill .fill .ensures)
+          (omega (arith, start .pre .1 .bottoms)) (start .pre .1 .sizes .rows .1)
+          (c .before .below .ensures) refl (omega (arith, start .pre .1 .rows));
+      table = at-fill .fill .ensures;
     }
 
 pub try-bound-spec : {M : Type 1} → statement M

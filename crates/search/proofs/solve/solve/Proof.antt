@@ -13,11 +13,17 @@ use Rattle.search.proofs.solve.solve.Tie as tie
 
 -- src/solve.rt:51:9
 returns : tie.Need-returns
-returns c = crowded-solved (c .before .before .before .before .before .args .top .now) (c .before .before .before .before .before .args .bottom .now) (c .before .before .before .before .before .args .shape) (length (c .before .before .before .before .before .args .columns .now)) (length (c .before .before .before .before .before .args .work .now)) (c .before .before .before .before .before .pre) _ _ (inl (c .if1 .taken))
+returns c =
+    let start = c .before .before .before .before .before in
+    let a = start .args in
+    crowded-solved (a .top .now) (a .bottom .now) (a .shape) (length (a .columns .now)) (length (a .work .now)) (start .pre) _ _ (inl (c .if1 .taken))
 
 -- src/solve.rt:54:9
 returns-2 : tie.Need-returns-2
-returns-2 c = crowded-solved (c .before .before .before .before .before .before .args .top .now) (c .before .before .before .before .before .before .args .bottom .now) (c .before .before .before .before .before .before .args .shape) (length (c .before .before .before .before .before .before .args .columns .now)) (length (c .before .before .before .before .before .before .args .work .now)) (c .before .before .before .before .before .before .pre) _ _ (inr (c .if2 .taken))
+returns-2 c =
+    let start = c .before .before .before .before .before .before in
+    let a = start .args in
+    crowded-solved (a .top .now) (a .bottom .now) (a .shape) (length (a .columns .now)) (length (a .work .now)) (start .pre) _ _ (inr (c .if2 .taken))
 
 -- src/solve.rt:56:9
 make-plan-requires : tie.Need-make-plan-requires
@@ -29,7 +35,14 @@ slice-aggregate-read-rules c = search needs
 
 -- src/solve.rt:58:5
 read-rules-requires : tie.Need-read-rules-requires
-read-rules-requires c κs = (search needs, omega arith, section-counts (c .before .before .before .before .before .before .before .before .args .top .now) (c .before .before .before .before .before .before .before .before .args .bottom .now) (c .before .before .before .before .before .before .before .before .args .shape) (length (c .before .before .before .before .before .before .before .before .args .columns .now)) (length (c .before .before .before .before .before .before .before .before .args .work .now)) (c .before .before .before .before .before .before .before .before .pre) .0)
+read-rules-requires c κs =
+    let start = c .before .before .before .before .before .before .before .before in
+    let a = start .args in (
+      search needs,
+      omega arith,
+      section-counts (a .top .now) (a .bottom .now) (a .shape) (length (a .columns .now)) (length (a .work .now))
+          (start .pre) .0,
+    )
 
 -- src/solve.rt:59:24
 slice-aggregate-read-rules-2 : tie.Need-slice-aggregate-read-rules-2
@@ -37,7 +50,14 @@ slice-aggregate-read-rules-2 c = search needs
 
 -- src/solve.rt:59:5
 read-rules-requires-2 : tie.Need-read-rules-requires-2
-read-rules-requires-2 c κs = (c .before .before .read-rules .ensures .kept ∙ refl, omega arith, section-counts (c .before .before .before .before .before .before .before .before .before .before .before .args .top .now) (c .before .before .before .before .before .before .before .before .before .before .before .args .bottom .now) (c .before .before .before .before .before .before .before .before .before .before .before .args .shape) (length (c .before .before .before .before .before .before .before .before .before .before .before .args .columns .now)) (length (c .before .before .before .before .before .before .before .before .before .before .before .args .work .now)) (c .before .before .before .before .before .before .before .before .before .before .before .pre) .1)
+read-rules-requires-2 c κs =
+    let start = c .before .before .before .before .before .before .before .before .before .before .before in
+    let a = start .args in (
+      c .before .before .read-rules .ensures .kept ∙ refl,
+      omega arith,
+      section-counts (a .top .now) (a .bottom .now) (a .shape)
+          (length (a .columns .now)) (length (a .work .now)) (start .pre) .1,
+    )
 
 -- src/solve.rt:61:35
 slice-aggregate-read-loads : tie.Need-slice-aggregate-read-loads
@@ -45,7 +65,15 @@ slice-aggregate-read-loads c = search needs
 
 -- src/solve.rt:61:5
 read-loads-requires : tie.Need-read-loads-requires
-read-loads-requires c κs = (section-counts (c .before .before .before .before .before .before .before .before .before .before .before .before .before .before .args .top .now) (c .before .before .before .before .before .before .before .before .before .before .before .before .before .before .args .bottom .now) (c .before .before .before .before .before .before .before .before .before .before .before .before .before .before .args .shape) (length (c .before .before .before .before .before .before .before .before .before .before .before .before .before .before .args .columns .now)) (length (c .before .before .before .before .before .before .before .before .before .before .before .before .before .before .args .work .now)) (c .before .before .before .before .before .before .before .before .before .before .before .before .before .before .pre) .0, section-counts (c .before .before .before .before .before .before .before .before .before .before .before .before .before .before .args .top .now) (c .before .before .before .before .before .before .before .before .before .before .before .before .before .before .args .bottom .now) (c .before .before .before .before .before .before .before .before .before .before .before .before .before .before .args .shape) (length (c .before .before .before .before .before .before .before .before .before .before .before .before .before .before .args .columns .now)) (length (c .before .before .before .before .before .before .before .before .before .before .before .before .before .before .args .work .now)) (c .before .before .before .before .before .before .before .before .before .before .before .before .before .before .pre) .1, refl)
+read-loads-requires c κs =
+    let start = c .before .before .before .before .before .before .before .before .before .before .before .before .before .before in
+    let a = start .args in (
+      section-counts (a .top .now) (a .bottom .now) (a .shape) (length (a .columns .now)) (length (a .work .now))
+          (start .pre) .0,
+      section-counts (a .top .now) (a .bottom .now) (a .shape) (length (a .columns .now)) (length (a .work .now))
+          (start .pre) .1,
+      refl,
+    )
 
 -- src/solve.rt:62:17
 slice-aggregate-place : tie.Need-slice-aggregate-place
@@ -57,10 +85,22 @@ slice-aggregate-place-2 c = search needs
 
 -- src/solve.rt:62:5
 place-requires : tie.Need-place-requires
-place-requires c κs = place-asked (c .before .before .before .before .before .before .before .before .before .before .before .before .before .before .before .before .before .before .before .before .args .top .now) (c .before .before .before .before .before .before .before .before .before .before .before .before .before .before .before .before .before .before .before .before .args .bottom .now) (c .before .before .before .before .before .before .before .before .before .before .before .before .before .before .before .before .before .before .before .before .args .shape) (c .before .before .before .before .before .before .before .before .before .before .before .before .before .before .before .before .before .before .before .before .args .columns .now) (c .before .before .before .before .before .before .before .before .before .before .before .before .before .before .before .before .before .before .before .before .args .work .now) (c .before .before .before .before .before .before .before .before .before .before .before .before .before .before .before .before .before .before .before .before .pre) (c .before .before .before .before .before .before .before .before .before .before .before .before .before .before .before .if1 .left) (c .before .before .before .before .before .before .before .before .before .before .before .before .before .before .if2 .left) _ _ (c .before .before .before .before .before .before .before .before .before .before .before .before .before .make-plan .result) (c .before .before .before .before .before .before .before .before .before .before .before .before .before .make-plan .ensures)
-    (rules-kept 0 1 (terminalsIn (c .before .before .before .before .before .before .before .before .before .before .before .before .before .before .before .before .before .before .before .before .args .top .now)) (terminalsIn (c .before .before .before .before .before .before .before .before .before .before .before .before .before .before .before .before .before .before .before .before .args .bottom .now)) _ _ (omega arith) (c .before .before .before .before .before .before .before .before .before .before .before .before .before .before .before .before .before .before .before .before .pre .sound .counts .0) (c .before .before .before .before .before .before .before .before .before .before .before .read-rules .ensures .rules) (c .before .before .before .before .before .before .before .before .read-rules2 .ensures))
-    (c .before .before .before .before .before .before .before .before .read-rules2 .ensures .rules)
-    (loads-sheet (c .before .before .before .before .before .before .before .before .before .before .before .before .before .before .before .before .before .before .before .before .args .shape .columns) (c .before .before .before .before .before .before .before .before .before .before .before .before .before .before .before .before .before .before .before .before .args .top .now) (c .before .before .before .before .before .before .before .before .before .before .before .before .before .before .before .before .before .before .before .before .args .bottom .now) _ _ (c .before .before .before .before .before .read-loads .ensures)) (c .before .before .before .before .before .before .before .before .read-rules2 .ensures .kept ∙ c .before .before .before .before .before .before .before .before .before .before .before .read-rules .ensures .kept) (c .before .before .before .before .before .read-loads .ensures .size)
+place-requires c κs =
+    let at-read-loads = c .before .before .before .before .before in
+    let at-read-rules2 = at-read-loads .before .before .before in
+    let at-read-rules = at-read-rules2 .before .before .before in
+    let at-make-plan = at-read-rules .before .before in
+    let at-if2 = at-make-plan .before in
+    let at-if1 = at-if2 .before in
+    let start = at-if1 .before .before .before .before .before in
+    let a = start .args in
+    place-asked (a .top .now) (a .bottom .now) (a .shape) (a .columns .now) (a .work .now) (start .pre) (at-if1 .if1 .left)
+    (at-if2 .if2 .left) _ _ (at-make-plan .make-plan .result) (at-make-plan .make-plan .ensures)
+    (rules-kept 0 1 (terminalsIn (a .top .now)) (terminalsIn (a .bottom .now)) _ _ (omega arith) (start .pre .sound .counts .0)
+    (at-read-rules .read-rules .ensures .rules) (at-read-rules2 .read-rules2 .ensures))
+    (at-read-rules2 .read-rules2 .ensures .rules)
+    (loads-sheet (a .shape .columns) (a .top .now) (a .bottom .now) _ _ (at-read-loads .read-loads .ensures))
+    (at-read-rules2 .read-rules2 .ensures .kept ∙ at-read-rules .read-rules .ensures .kept) (at-read-loads .read-loads .ensures .size)
 
 -- src/solve.rt:43:1
 same-length : tie.Need-same-length
@@ -72,10 +112,22 @@ same-length-2 c = search needs
 
 -- src/solve.rt:43:1
 returns-3 : tie.Need-returns-3
-returns-3 c = placed-solved (c .before .before .before .before .before .before .before .before .before .before .before .before .before .before .before .before .before .before .before .before .before .before .before .before .before .args .top .now) (c .before .before .before .before .before .before .before .before .before .before .before .before .before .before .before .before .before .before .before .before .before .before .before .before .before .args .bottom .now) (c .before .before .before .before .before .before .before .before .before .before .before .before .before .before .before .before .before .before .before .before .before .before .before .before .before .args .shape) (c .before .before .before .before .before .before .before .before .before .before .before .before .before .before .before .before .before .before .before .before .before .before .before .before .before .args .columns .now) (c .before .before .before .before .before .before .before .before .before .before .before .before .before .before .before .before .before .before .before .before .before .before .before .before .before .args .work .now) (c .before .before .before .before .before .before .before .before .before .before .before .before .before .before .before .before .before .before .before .before .before .before .before .before .before .pre) (c .before .before .before .before .before .before .before .before .before .before .before .before .before .before .before .before .before .before .before .before .if1 .left) (c .before .before .before .before .before .before .before .before .before .before .before .before .before .before .before .before .before .before .before .if2 .left) _ _ (c .before .before .before .before .before .before .before .before .before .before .before .before .before .before .before .before .before .before .make-plan .result) (c .before .before .before .before .before .before .before .before .before .before .before .before .before .before .before .before .before .before .make-plan .ensures)
-    (rules-kept 0 1 (terminalsIn (c .before .before .before .before .before .before .before .before .before .before .before .before .before .before .before .before .before .before .before .before .before .before .before .before .before .args .top .now)) (terminalsIn (c .before .before .before .before .before .before .before .before .before .before .before .before .before .before .before .before .before .before .before .before .before .before .before .before .before .args .bottom .now)) _ _ (omega arith) (c .before .before .before .before .before .before .before .before .before .before .before .before .before .before .before .before .before .before .before .before .before .before .before .before .before .pre .sound .counts .0) (c .before .before .before .before .before .before .before .before .before .before .before .before .before .before .before .before .read-rules .ensures .rules) (c .before .before .before .before .before .before .before .before .before .before .before .before .before .read-rules2 .ensures))
-    (c .before .before .before .before .before .before .before .before .before .before .before .before .before .read-rules2 .ensures .rules)
-    (loads-sheet (c .before .before .before .before .before .before .before .before .before .before .before .before .before .before .before .before .before .before .before .before .before .before .before .before .before .args .shape .columns) (c .before .before .before .before .before .before .before .before .before .before .before .before .before .before .before .before .before .before .before .before .before .before .before .before .before .args .top .now) (c .before .before .before .before .before .before .before .before .before .before .before .before .before .before .before .before .before .before .before .before .before .before .before .before .before .args .bottom .now) _ _ (c .before .before .before .before .before .before .before .before .before .before .read-loads .ensures)) _ _ _ (c .before .before .before .before .place .ensures)
+returns-3 c =
+    let at-place = c .before .before .before .before in
+    let at-read-loads = at-place .before .before .before .before .before .before in
+    let at-read-rules2 = at-read-loads .before .before .before in
+    let at-read-rules = at-read-rules2 .before .before .before in
+    let at-make-plan = at-read-rules .before .before in
+    let at-if2 = at-make-plan .before in
+    let at-if1 = at-if2 .before in
+    let start = at-if1 .before .before .before .before .before in
+    let a = start .args in
+    placed-solved (a .top .now) (a .bottom .now) (a .shape) (a .columns .now) (a .work .now) (start .pre) (at-if1 .if1 .left)
+    (at-if2 .if2 .left) _ _ (at-make-plan .make-plan .result) (at-make-plan .make-plan .ensures)
+    (rules-kept 0 1 (terminalsIn (a .top .now)) (terminalsIn (a .bottom .now)) _ _ (omega arith) (start .pre .sound .counts .0)
+    (at-read-rules .read-rules .ensures .rules) (at-read-rules2 .read-rules2 .ensures))
+    (at-read-rules2 .read-rules2 .ensures .rules)
+    (loads-sheet (a .shape .columns) (a .top .now) (a .bottom .now) _ _ (at-read-loads .read-loads .ensures)) _ _ _ (at-place .place .ensures)
 
 pub solve-spec : {M : Type 1} → statement M
 solve-spec =

@@ -12,11 +12,17 @@ use Rattle.search.proofs.walk.bottom_fits.Tie as tie
 
 -- src/walk.rt:118:9
 returns : tie.Need-returns
-returns c = no-pin-below (c .before .before .before .args .work .now) (c .before .before .before .args .rules .now) (c .before .before .before .args .grid) (c .before .before .before .args .p) (c .before .before .before .args .q) (c .before .before .before .args .m) (c .if1 .taken)
+returns c =
+    let start = c .before .before .before in
+    let a = start .args in
+    no-pin-below (a .work .now) (a .rules .now) (a .grid) (a .p) (a .q) (a .m) (c .if1 .taken)
 
 -- src/walk.rt:121:9
 returns-2 : tie.Need-returns-2
-returns-2 c = no-room-below (c .before .before .before .before .args .work .now) (c .before .before .before .before .args .rules .now) (c .before .before .before .before .args .grid) (c .before .before .before .before .args .p) (c .before .before .before .before .args .q) (c .before .before .before .before .args .m) (c .if2 .taken)
+returns-2 c =
+    let start = c .before .before .before .before in
+    let a = start .args in
+    no-room-below (a .work .now) (a .rules .now) (a .grid) (a .p) (a .q) (a .m) (c .if2 .taken)
 
 -- src/walk.rt:123:12
 steps-to-requires : tie.Need-steps-to-requires
@@ -24,14 +30,20 @@ steps-to-requires c κs = search needs
 
 -- src/walk.rt:123:38
 stands-at-requires : tie.Need-stands-at-requires
-stands-at-requires c κs = (c .before .before .before .before .before .pre .1 .j, λ h. omega (arith, c .before .before .before .before .before .pre .1 .bottom h, c .before .if2 .left))
+stands-at-requires c κs =
+    let start = c .before .before .before .before .before in
+    (start .pre .1 .j, λ h. omega (arith, start .pre .1 .bottom h, c .before .if2 .left))
 
 -- src/walk.rt:123:38
 sub-bit : tie.Need-sub-bit
 sub-bit c =
-    let a = c .before .before .before .before .before .before .args in
+    let at-if1 = c .before .before .before in
+    let start = at-if1 .before .before .before in
+    let a = start .args in
     rw (c .stands-at .ensures)
-    (stands-high (a .m .j) (a .q) (a .m .bottom) (a .m .c - a .m .j) (λ h. omega (arith, c .before .before .before .before .before .before .pre .1 .bottom h, c .before .before .if2 .left)) (c .before .before .before .before .before .before .pre .1 .j) (omega (arith, c .before .before .before .if1 .left, c .before .before .before .before .before .before .pre .1 .c)))
+    (stands-high (a .m .j) (a .q) (a .m .bottom) (a .m .c - a .m .j)
+    (λ h. omega (arith, start .pre .1 .bottom h, c .before .before .if2 .left)) (start .pre .1 .j)
+    (omega (arith, at-if1 .if1 .left, start .pre .1 .c)))
 
 -- src/walk.rt:123:8
 bit-requires : tie.Need-bit-requires
@@ -48,13 +60,29 @@ empty-fits-requires c κs = search needs
 -- src/walk.rt:124:9
 returns-3 : tie.Need-returns-3
 returns-3 c =
-    let a = c .before .before .before .before .before .before .before .before .before .before .args in
-    pin-below (c .before .before .before .before .before .before .before .before .before .before .args .work .now) (c .before .before .before .before .before .before .before .before .before .before .args .rules .now) (c .before .before .before .before .before .before .before .before .before .before .args .grid) (c .before .before .before .before .before .before .before .before .before .before .args .p) (c .before .before .before .before .before .before .before .before .before .before .args .q) (c .before .before .before .before .before .before .before .before .before .before .args .m) _ (c .before .before .before .before .before .before .before .if1 .left) (c .before .before .before .before .before .before .if2 .left) (ap₂ bitOf (sym (c .before .before .before .before .before .steps-to .ensures)) (ap (λ (n : ℕ). n - (c .before .before .before .before .before .before .before .before .before .before .args .m .c - c .before .before .before .before .before .before .before .before .before .before .args .m .j)) (sym (c .before .before .before .before .stands-at .ensures))) ∙ sym (c .before .before .before .bit .ensures) ∙ c .before .before .if3 .taken)
-    (c .empty-fits .ensures ∙ left-same (a .work .now) (a .rules .now) (a .grid) (a .p) (a .m) _ (λ (y : ℕ). eqb y (a .m .c - a .m .j)) (c .before .single .ensures))
+    let at-bit = c .before .before .before in
+    let at-stands-at = at-bit .before in
+    let at-steps-to = at-stands-at .before in
+    let at-if2 = at-steps-to .before in
+    let at-if1 = at-if2 .before in
+    let start = at-if1 .before .before .before in
+    let a = start .args in
+    pin-below (start .args .work .now) (start .args .rules .now) (start .args .grid) (start .args .p) (start .args .q) (start .args .m) _
+    (at-if1 .if1 .left) (at-if2 .if2 .left) (ap₂ bitOf (sym (at-steps-to .steps-to .ensures))
+    (ap (λ (n : ℕ). n - (start .args .m .c - start .args .m .j)) (sym (at-stands-at .stands-at .ensures))) ∙ sym (at-bit .bit .ensures)
+    ∙ c .before .before .if3 .taken)
+    (c .empty-fits .ensures ∙ left-same (a .work .now) (a .rules .now) (a .grid) (a .p) (a .m) _ (λ (y : ℕ). eqb y (a .m .c - a .m .j))
+    (c .before .single .ensures))
 
 -- src/walk.rt:111:1
 returns-4 : tie.Need-returns-4
-returns-4 c = far-below (c .before .before .before .before .before .before .before .before .args .work .now) (c .before .before .before .before .before .before .before .before .args .rules .now) (c .before .before .before .before .before .before .before .before .args .grid) (c .before .before .before .before .before .before .before .before .args .p) (c .before .before .before .before .before .before .before .before .args .q) (c .before .before .before .before .before .before .before .before .args .m) (ap₂ bitOf (sym (c .before .before .before .steps-to .ensures)) (ap (λ (n : ℕ). n - (c .before .before .before .before .before .before .before .before .args .m .c - c .before .before .before .before .before .before .before .before .args .m .j)) (sym (c .before .before .stands-at .ensures))) ∙ sym (c .before .bit .ensures) ∙ c .if3 .left)
+returns-4 c =
+    let at-steps-to = c .before .before .before in
+    let start = at-steps-to .before .before .before .before .before in
+    let a = start .args in
+    far-below (a .work .now) (a .rules .now) (a .grid) (a .p) (a .q) (a .m)
+    (ap₂ bitOf (sym (at-steps-to .steps-to .ensures))
+    (ap (λ (n : ℕ). n - (a .m .c - a .m .j)) (sym (c .before .before .stands-at .ensures))) ∙ sym (c .before .bit .ensures) ∙ c .if3 .left)
 
 pub bottom-fits-spec : {M : Type 1} → statement M
 bottom-fits-spec =

@@ -17,7 +17,12 @@ empty-fits-requires c κs = search needs
 
 -- src/walk.rt:137:9
 returns : tie.Need-returns
-returns c = chose-empty (c .before .before .before .before .before .args .work .now) (c .before .before .before .before .before .args .rules .now) (c .before .before .before .before .before .args .grid) (c .before .before .before .before .before .args .p) (c .before .before .before .before .before .args .q) (c .before .before .before .before .before .args .m) (sym (c .before .empty-fits .ensures ∙ left-same (c .before .before .before .before .before .args .work .now) (c .before .before .before .before .before .args .rules .now) (c .before .before .before .before .before .args .grid) (c .before .before .before .before .before .args .p) (c .before .before .before .before .before .args .m) _ (lefts (c .before .before .before .before .before .args .rules .now) (c .before .before .before .before .before .args .q) (c .before .before .before .before .before .args .m)) (c .before .before .left-numbers .ensures)) ∙ c .if1 .taken)
+returns c =
+    let start = c .before .before .before .before .before in
+    let a = start .args in
+    chose-empty (a .work .now) (a .rules .now) (a .grid) (a .p) (a .q) (a .m)
+    (sym (c .before .empty-fits .ensures ∙ left-same (a .work .now) (a .rules .now) (a .grid) (a .p) (a .m) _
+    (lefts (a .rules .now) (a .q) (a .m)) (c .before .before .left-numbers .ensures)) ∙ c .if1 .taken)
 
 -- src/walk.rt:139:8
 top-fits-requires : tie.Need-top-fits-requires
@@ -25,7 +30,16 @@ top-fits-requires c κs = search needs
 
 -- src/walk.rt:140:9
 returns-2 : tie.Need-returns-2
-returns-2 c = chose-top (c .before .before .before .before .before .before .before .args .work .now) (c .before .before .before .before .before .before .before .args .rules .now) (c .before .before .before .before .before .before .before .args .grid) (c .before .before .before .before .before .before .before .args .p) (c .before .before .before .before .before .before .before .args .q) (c .before .before .before .before .before .before .before .args .m) (sym (c .before .before .before .empty-fits .ensures ∙ left-same (c .before .before .before .before .before .before .before .args .work .now) (c .before .before .before .before .before .before .before .args .rules .now) (c .before .before .before .before .before .before .before .args .grid) (c .before .before .before .before .before .before .before .args .p) (c .before .before .before .before .before .before .before .args .m) _ (lefts (c .before .before .before .before .before .before .before .args .rules .now) (c .before .before .before .before .before .before .before .args .q) (c .before .before .before .before .before .before .before .args .m)) (c .before .before .before .before .left-numbers .ensures)) ∙ c .before .before .if1 .left) (sym (c .before .top-fits .ensures ∙ here-same (c .before .before .before .before .before .before .before .args .work .now) (c .before .before .before .before .before .before .before .args .rules .now) (c .before .before .before .before .before .before .before .args .grid) (c .before .before .before .before .before .before .before .args .p) (c .before .before .before .before .before .before .before .args .m) _ (lefts (c .before .before .before .before .before .before .before .args .rules .now) (c .before .before .before .before .before .before .before .args .q) (c .before .before .before .before .before .before .before .args .m)) (c .before .before .before .before .left-numbers .ensures)) ∙ c .if2 .taken)
+returns-2 c =
+    let at-empty-fits = c .before .before .before in
+    let at-left-numbers = at-empty-fits .before in
+    let start = at-left-numbers .before .before .before in
+    let a = start .args in
+    chose-top (a .work .now) (a .rules .now) (a .grid) (a .p) (a .q) (a .m)
+    (sym (at-empty-fits .empty-fits .ensures ∙ left-same (a .work .now) (a .rules .now) (a .grid) (a .p) (a .m) _
+    (lefts (a .rules .now) (a .q) (a .m)) (at-left-numbers .left-numbers .ensures)) ∙ c .before .before .if1 .left)
+    (sym (c .before .top-fits .ensures ∙ here-same (a .work .now) (a .rules .now) (a .grid) (a .p) (a .m) _
+    (lefts (a .rules .now) (a .q) (a .m)) (at-left-numbers .left-numbers .ensures)) ∙ c .if2 .taken)
 
 -- src/walk.rt:142:8
 bottom-fits-requires : tie.Need-bottom-fits-requires
@@ -33,11 +47,35 @@ bottom-fits-requires c κs = search needs
 
 -- src/walk.rt:143:9
 returns-3 : tie.Need-returns-3
-returns-3 c = chose-other (c .before .before .before .before .before .before .before .before .before .args .work .now) (c .before .before .before .before .before .before .before .before .before .args .rules .now) (c .before .before .before .before .before .before .before .before .before .args .grid) (c .before .before .before .before .before .before .before .before .before .args .p) (c .before .before .before .before .before .before .before .before .before .args .q) (c .before .before .before .before .before .before .before .before .before .args .m) _ (sym (c .before .before .before .before .before .empty-fits .ensures ∙ left-same (c .before .before .before .before .before .before .before .before .before .args .work .now) (c .before .before .before .before .before .before .before .before .before .args .rules .now) (c .before .before .before .before .before .before .before .before .before .args .grid) (c .before .before .before .before .before .before .before .before .before .args .p) (c .before .before .before .before .before .before .before .before .before .args .m) _ (lefts (c .before .before .before .before .before .before .before .before .before .args .rules .now) (c .before .before .before .before .before .before .before .before .before .args .q) (c .before .before .before .before .before .before .before .before .before .args .m)) (c .before .before .before .before .before .before .left-numbers .ensures)) ∙ c .before .before .before .before .if1 .left) (sym (c .before .before .before .top-fits .ensures ∙ here-same (c .before .before .before .before .before .before .before .before .before .args .work .now) (c .before .before .before .before .before .before .before .before .before .args .rules .now) (c .before .before .before .before .before .before .before .before .before .args .grid) (c .before .before .before .before .before .before .before .before .before .args .p) (c .before .before .before .before .before .before .before .before .before .args .m) _ (lefts (c .before .before .before .before .before .before .before .before .before .args .rules .now) (c .before .before .before .before .before .before .before .before .before .args .q) (c .before .before .before .before .before .before .before .before .before .args .m)) (c .before .before .before .before .before .before .left-numbers .ensures)) ∙ c .before .before .if2 .left) (sym (c .before .bottom-fits .ensures) ∙ c .if3 .taken)
+returns-3 c =
+    let at-top-fits = c .before .before .before in
+    let at-if1 = at-top-fits .before in
+    let at-empty-fits = at-if1 .before in
+    let at-left-numbers = at-empty-fits .before in
+    let start = at-left-numbers .before .before .before in
+    let a = start .args in
+    chose-other (a .work .now) (a .rules .now) (a .grid) (a .p) (a .q) (a .m) _
+    (sym (at-empty-fits .empty-fits .ensures ∙ left-same (a .work .now) (a .rules .now) (a .grid) (a .p) (a .m) _
+    (lefts (a .rules .now) (a .q) (a .m)) (at-left-numbers .left-numbers .ensures)) ∙ at-if1 .if1 .left)
+    (sym (at-top-fits .top-fits .ensures ∙ here-same (a .work .now) (a .rules .now) (a .grid) (a .p) (a .m) _
+    (lefts (a .rules .now) (a .q) (a .m)) (at-left-numbers .left-numbers .ensures)) ∙ c .before .before .if2 .left)
+    (sym (c .before .bottom-fits .ensures) ∙ c .if3 .taken)
 
 -- src/walk.rt:131:1
 returns-4 : tie.Need-returns-4
-returns-4 c = chose-other (c .before .before .before .before .before .before .before .before .before .args .work .now) (c .before .before .before .before .before .before .before .before .before .args .rules .now) (c .before .before .before .before .before .before .before .before .before .args .grid) (c .before .before .before .before .before .before .before .before .before .args .p) (c .before .before .before .before .before .before .before .before .before .args .q) (c .before .before .before .before .before .before .before .before .before .args .m) _ (sym (c .before .before .before .before .before .empty-fits .ensures ∙ left-same (c .before .before .before .before .before .before .before .before .before .args .work .now) (c .before .before .before .before .before .before .before .before .before .args .rules .now) (c .before .before .before .before .before .before .before .before .before .args .grid) (c .before .before .before .before .before .before .before .before .before .args .p) (c .before .before .before .before .before .before .before .before .before .args .m) _ (lefts (c .before .before .before .before .before .before .before .before .before .args .rules .now) (c .before .before .before .before .before .before .before .before .before .args .q) (c .before .before .before .before .before .before .before .before .before .args .m)) (c .before .before .before .before .before .before .left-numbers .ensures)) ∙ c .before .before .before .before .if1 .left) (sym (c .before .before .before .top-fits .ensures ∙ here-same (c .before .before .before .before .before .before .before .before .before .args .work .now) (c .before .before .before .before .before .before .before .before .before .args .rules .now) (c .before .before .before .before .before .before .before .before .before .args .grid) (c .before .before .before .before .before .before .before .before .before .args .p) (c .before .before .before .before .before .before .before .before .before .args .m) _ (lefts (c .before .before .before .before .before .before .before .before .before .args .rules .now) (c .before .before .before .before .before .before .before .before .before .args .q) (c .before .before .before .before .before .before .before .before .before .args .m)) (c .before .before .before .before .before .before .left-numbers .ensures)) ∙ c .before .before .if2 .left) (sym (c .before .bottom-fits .ensures) ∙ c .if3 .left)
+returns-4 c =
+    let at-top-fits = c .before .before .before in
+    let at-if1 = at-top-fits .before in
+    let at-empty-fits = at-if1 .before in
+    let at-left-numbers = at-empty-fits .before in
+    let start = at-left-numbers .before .before .before in
+    let a = start .args in
+    chose-other (a .work .now) (a .rules .now) (a .grid) (a .p) (a .q) (a .m) _
+    (sym (at-empty-fits .empty-fits .ensures ∙ left-same (a .work .now) (a .rules .now) (a .grid) (a .p) (a .m) _
+    (lefts (a .rules .now) (a .q) (a .m)) (at-left-numbers .left-numbers .ensures)) ∙ at-if1 .if1 .left)
+    (sym (at-top-fits .top-fits .ensures ∙ here-same (a .work .now) (a .rules .now) (a .grid) (a .p) (a .m) _
+    (lefts (a .rules .now) (a .q) (a .m)) (at-left-numbers .left-numbers .ensures)) ∙ c .before .before .if2 .left)
+    (sym (c .before .bottom-fits .ensures) ∙ c .if3 .left)
 
 pub choose-spec : {M : Type 1} → statement M
 choose-spec =

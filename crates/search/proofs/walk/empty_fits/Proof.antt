@@ -14,23 +14,50 @@ sub-left c = search needs
 
 -- src/walk.rt:79:9
 returns : tie.Need-returns
-returns c = none-left (c .before .before .before .before .args .work .now) (c .before .before .before .before .args .rules .now) (c .before .before .before .before .args .grid) (c .before .before .before .before .args .p) (c .before .before .before .before .args .m) (c .before .before .before .before .args .lefts) (c .if1 .taken)
+returns c =
+    let start = c .before .before .before .before in
+    let a = start .args in
+    none-left (a .work .now) (a .rules .now) (a .grid) (a .p) (a .m) (a .lefts) (c .if1 .taken)
 
 -- src/walk.rt:81:16
 mul-base : tie.Need-mul-base
-mul-base c = omega (arith, base-room (c .before .before .before .before .before .args .work .now) (c .before .before .before .before .before .args .rules .now) (c .before .before .before .before .before .args .grid) (c .before .before .before .before .before .args .p) (c .before .before .before .before .before .args .q) (c .before .before .before .before .before .pre .0) (c .before .before .before .before .before .args .m .i) (c .before .before .before .before .before .args .m .j) (c .before .before .before .before .before .pre .1 .i) (c .before .before .before .before .before .pre .1 .j))
+mul-base c =
+    let start = c .before .before .before .before .before in
+    let a = start .args in
+    omega (
+      arith,
+      base-room (a .work .now) (a .rules .now) (a .grid) (a .p) (a .q) (start .pre .0) (a .m .i) (a .m .j) (start .pre .1 .i)
+          (start .pre .1 .j),
+    )
 
 -- src/walk.rt:81:34
 mul-base-2 : tie.Need-mul-base-2
-mul-base-2 c = omega (arith, base-room (c .before .before .before .before .before .before .before .args .work .now) (c .before .before .before .before .before .before .before .args .rules .now) (c .before .before .before .before .before .before .before .args .grid) (c .before .before .before .before .before .before .before .args .p) (c .before .before .before .before .before .before .before .args .q) (c .before .before .before .before .before .before .before .pre .0) (c .before .before .before .before .before .before .before .args .m .i) (c .before .before .before .before .before .before .before .args .m .j) (c .before .before .before .before .before .before .before .pre .1 .i) (c .before .before .before .before .before .before .before .pre .1 .j))
+mul-base-2 c =
+    let start = c .before .before .before .before .before .before .before in
+    let a = start .args in
+    omega (
+      arith,
+      base-room (a .work .now) (a .rules .now) (a .grid) (a .p) (a .q) (start .pre .0) (a .m .i) (a .m .j) (start .pre .1 .i)
+          (start .pre .1 .j),
+    )
 
 -- src/walk.rt:81:16
 add-base : tie.Need-add-base
-add-base c = omega (arith, base-room (c .before .before .before .before .before .before .before .args .work .now) (c .before .before .before .before .before .before .before .args .rules .now) (c .before .before .before .before .before .before .before .args .grid) (c .before .before .before .before .before .before .before .args .p) (c .before .before .before .before .before .before .before .args .q) (c .before .before .before .before .before .before .before .pre .0) (c .before .before .before .before .before .before .before .args .m .i) (c .before .before .before .before .before .before .before .args .m .j) (c .before .before .before .before .before .before .before .pre .1 .i) (c .before .before .before .before .before .before .before .pre .1 .j))
+add-base c =
+    let start = c .before .before .before .before .before .before .before in
+    let a = start .args in
+    omega (
+      arith,
+      base-room (a .work .now) (a .rules .now) (a .grid) (a .p) (a .q) (start .pre .0) (a .m .i) (a .m .j) (start .pre .1 .i)
+          (start .pre .1 .j),
+    )
 
 -- src/walk.rt:82:9
 stands-at-requires : tie.Need-stands-at-requires
-stands-at-requires c κs = (c .before .before .before .before .before .before .before .pre .1 .i, λ h. omega (arith, c .before .before .before .before .before .before .before .pre .1 .top h, c .before .before .before .if1 .left, c .before .before .before .before .before .before .before .pre .2))
+stands-at-requires c κs =
+    let at-if1 = c .before .before .before in
+    let start = at-if1 .before .before .before .before in
+    (start .pre .1 .i, λ h. omega (arith, start .pre .1 .top h, at-if1 .if1 .left, start .pre .2))
 
 -- src/walk.rt:83:9
 steps-to-requires : tie.Need-steps-to-requires
@@ -43,18 +70,35 @@ last-row-requires c κs = search needs
 -- src/walk.rt:84:5
 meets-requires : tie.Need-meets-requires
 meets-requires c κs =
-    let a = c .before .before .before .before .before .before .before .before .before .before .args in
+    let at-if1 = c .before .before .before .before .before .before in
+    let start = at-if1 .before .before .before .before in
+    let a = start .args in
     let high = c .last-row .result in
     let below : high ≤ a .m .c - 1 - a .m .i = omega (arith, c .last-row .ensures) in (
-      omega (arith, base-room (c .before .before .before .before .before .before .before .before .before .before .args .work .now) (c .before .before .before .before .before .before .before .before .before .before .args .rules .now) (c .before .before .before .before .before .before .before .before .before .before .args .grid) (c .before .before .before .before .before .before .before .before .before .before .args .p) (c .before .before .before .before .before .before .before .before .before .before .args .q) (c .before .before .before .before .before .before .before .before .before .before .pre .0) (c .before .before .before .before .before .before .before .before .before .before .args .m .i) (c .before .before .before .before .before .before .before .before .before .before .args .m .j) (c .before .before .before .before .before .before .before .before .before .before .pre .1 .i) (c .before .before .before .before .before .before .before .before .before .before .pre .1 .j), c .last-row .ensures, c .before .before .before .before .before .before .before .before .before .before .pre .0 .sizes .rows .0, c .before .before .before .before .before .before .before .before .before .before .pre .0 .rows),
+      omega (
+        arith,
+        base-room (start .args .work .now) (start .args .rules .now) (start .args .grid) (start .args .p) (start .args .q)
+            (start .pre .0) (start .args .m .i) (start .args .m .j) (start .pre .1 .i)
+            (start .pre .1 .j),
+        c .last-row .ensures,
+        start .pre .0 .sizes .rows .0,
+        start .pre .0 .rows,
+      ),
       omega arith,
       rw (c .before .before .stands-at .ensures)
-          (stands-high (a .m .i) (a .p) (a .m .top) high (λ h. omega (arith, below, c .before .before .before .before .before .before .before .before .before .before .pre .1 .top h, c .before .before .before .before .before .before .if1 .left, c .before .before .before .before .before .before .before .before .before .before .pre .2)) (c .before .before .before .before .before .before .before .before .before .before .pre .1 .i) (omega (arith, below, c .before .before .before .before .before .before .before .before .before .before .pre .1 .c))),
+          (stands-high (a .m .i) (a .p) (a .m .top) high (λ h. omega (arith, below, start .pre .1 .top h, at-if1 .if1 .left, start .pre .2))
+          (start .pre .1 .i) (omega (arith, below, start .pre .1 .c))),
     )
 
 -- src/walk.rt:72:1
 returns-2 : tie.Need-returns-2
-returns-2 c = c .meets .ensures ∙ rows-left (c .before .before .before .before .before .before .before .before .before .before .before .args .work .now) (c .before .before .before .before .before .before .before .before .before .before .before .args .rules .now) (c .before .before .before .before .before .before .before .before .before .before .before .args .grid) (c .before .before .before .before .before .before .before .before .before .before .before .args .p) (c .before .before .before .before .before .before .before .before .before .before .before .args .m) (c .before .before .before .before .before .before .before .before .before .before .before .args .lefts) _ _ _ _ (c .before .before .before .before .before .before .before .if1 .left) refl (c .before .last-row .ensures) (c .before .before .before .stands-at .ensures) (c .before .before .steps-to .ensures)
+returns-2 c =
+    let at-stands-at = c .before .before .before in
+    let at-if1 = at-stands-at .before .before .before .before in
+    let start = at-if1 .before .before .before .before in
+    let a = start .args in
+    c .meets .ensures ∙ rows-left (a .work .now) (a .rules .now) (a .grid) (a .p) (a .m) (a .lefts) _ _ _ _ (at-if1 .if1 .left) refl
+    (c .before .last-row .ensures) (at-stands-at .stands-at .ensures) (c .before .before .steps-to .ensures)
 
 pub empty-fits-spec : {M : Type 1} → statement M
 empty-fits-spec =

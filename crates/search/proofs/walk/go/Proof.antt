@@ -43,7 +43,17 @@ pick-requires-4 c κs = search needs
 
 -- src/walk.rt:181:1
 returns : tie.Need-returns
-returns c = go-behind (c .before .before .before .before .before .before .before .before .before .args .letter) (c .before .before .before .before .before .before .before .before .before .args .m) _ _ _ _ _ _ _ _ (c .before .before .before .before .before .before .before .before .has-top .ensures) (c .before .before .before .before .before .before .before .has-bottom .ensures) (c .before .before .before .before .before .less .ensures) (c .before .before .before .less2 .ensures) (c .before .before .before .before .pick .ensures) (c .before .before .pick2 .ensures) (c .before .pick3 .ensures) (c .pick4 .ensures)
+returns c =
+    let at-less2 = c .before .before .before in
+    let at-pick = at-less2 .before in
+    let at-less = at-pick .before in
+    let at-has-bottom = at-less .before .before in
+    let at-has-top = at-has-bottom .before in
+    let start = at-has-top .before in
+    let a = start .args in
+    go-behind (a .letter) (a .m) _ _ _ _ _ _ _ _ (at-has-top .has-top .ensures) (at-has-bottom .has-bottom .ensures)
+    (at-less .less .ensures) (at-less2 .less2 .ensures) (at-pick .pick .ensures) (c .before .before .pick2 .ensures)
+    (c .before .pick3 .ensures) (c .pick4 .ensures)
 
 pub go-spec : {M : Type 1} → statement M
 go-spec =

@@ -13,7 +13,10 @@ sub-left : tie.Need-sub-left
 sub-left c = search needs
 
 returns : tie.Need-returns
-returns c = λ y h. bit-zero y ∙ no-lefts (c .before .before .before .args .rules .now) (c .before .before .before .args .q) (c .before .before .before .args .m) y (c .if1 .taken)
+returns c =
+    let start = c .before .before .before in
+    let a = start .args in
+    λ y h. bit-zero y ∙ no-lefts (a .rules .now) (a .q) (a .m) y (c .if1 .taken)
 
 stands-at-requires : tie.Need-stands-at-requires
 stands-at-requires c κs = (c .before .before .before .pre .4, λ h. omega (arith, c .before .before .before .pre .5 h, c .if1 .left, c .before .before .before .pre .2))
@@ -23,14 +26,22 @@ steps-to-requires c κs = search needs
 
 back-requires : tie.Need-back-requires
 back-requires c κs =
-    let a = c .before .before .before .before .before .args in (
-      omega (arith, c .before .before .before .before .before .pre .3),
+    let start = c .before .before .before .before .before in
+    let a = start .args in (
+      omega (arith, start .pre .3),
       rw (c .before .stands-at .ensures)
-          (stands-high (a .m .j) (a .q) (a .m .bottom) (a .m .c - 1 - a .m .j) (λ h. omega (arith, c .before .before .before .before .before .pre .5 h, c .before .before .if1 .left, c .before .before .before .before .before .pre .2)) (c .before .before .before .before .before .pre .4) (omega (arith, c .before .before .before .before .before .pre .3))),
+          (stands-high (a .m .j) (a .q) (a .m .bottom) (a .m .c - 1 - a .m .j)
+          (λ h. omega (arith, start .pre .5 h, c .before .before .if1 .left, start .pre .2)) (start .pre .4)
+          (omega (arith, start .pre .3))),
     )
 
 returns-2 : tie.Need-returns-2
-returns-2 c = λ y h. c .back .ensures y h ∙ some-lefts (c .before .before .before .before .before .before .args .rules .now) (c .before .before .before .before .before .before .args .q) (c .before .before .before .before .before .before .args .m) y _ _ (c .before .before .before .if1 .left) (c .before .before .stands-at .ensures) (c .before .steps-to .ensures)
+returns-2 c =
+    let at-if1 = c .before .before .before in
+    let start = at-if1 .before .before .before in
+    let a = start .args in
+    λ y h. c .back .ensures y h ∙ some-lefts (a .rules .now) (a .q) (a .m) y _ _ (at-if1 .if1 .left) (c .before .before .stands-at .ensures)
+    (c .before .steps-to .ensures)
 
 pub left-numbers-spec : {M : Type 1} → statement M
 left-numbers-spec =

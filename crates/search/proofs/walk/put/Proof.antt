@@ -17,7 +17,10 @@ less-requires : tie.Need-less-requires
 less-requires c κs = search needs
 
 put-one-requires : tie.Need-put-one-requires
-put-one-requires c κs = λ h. omega (arith, c .less .ensures, pin-left (c .before .before .before .before .before .args .letter) (c .before .before .before .before .before .args .m .i) 1 3 (sym (c .before .has-top .ensures) ∙ h), c .before .before .before .before .before .pre .1, c .before .before .before .before .before .pre .2)
+put-one-requires c κs =
+    let start = c .before .before .before .before .before in
+    let a = start .args in
+    λ h. omega (arith, c .less .ensures, pin-left (a .letter) (a .m .i) 1 3 (sym (c .before .has-top .ensures) ∙ h), start .pre .1, start .pre .2)
 
 has-bottom-requires : tie.Need-has-bottom-requires
 has-bottom-requires c κs = search needs
@@ -29,13 +32,33 @@ add-put-one : tie.Need-add-put-one
 add-put-one c = search needs
 
 put-one-requires-2 : tie.Need-put-one-requires-2
-put-one-requires-2 c κs = λ h. omega (arith, c .less2 .ensures, pin-left (c .before .before .before .before .before .before .before .before .before .before .before .args .letter) (c .before .before .before .before .before .before .before .before .before .before .before .args .m .j) 2 3 (sym (c .before .has-bottom .ensures) ∙ h), c .before .before .before .before .before .before .before .before .before .before .before .pre .2, c .before .before .before .before .before .put-one .kept .0)
+put-one-requires-2 c κs =
+    let at-put-one = c .before .before .before .before .before in
+    let start = at-put-one .before .before .before .before .before .before in
+    let a = start .args in
+    λ h. omega (
+      arith,
+      c .less2 .ensures,
+      pin-left (a .letter) (a .m .j) 2 3
+          (sym (c .before .has-bottom .ensures) ∙ h),
+      start .pre .2,
+      at-put-one .put-one .kept .0,
+    )
 
 same-length : tie.Need-same-length
 same-length c = search needs
 
 returns : tie.Need-returns
-returns c = put-written (c .before .before .before .before .before .before .before .before .before .before .before .before .before .before .args .p) (c .before .before .before .before .before .before .before .before .before .before .before .before .before .before .args .letter) (c .before .before .before .before .before .before .before .before .before .before .before .before .before .before .args .m) (c .before .before .before .before .before .before .before .before .before .before .before .before .before .before .args .columns .now) _ _ _ _ _ _ (c .before .before .before .before .before .before .before .before .before .before .has-top .ensures) (c .before .before .before .before .has-bottom .ensures) (c .before .before .before .before .before .before .before .before .before .less .ensures) (c .before .before .before .less2 .ensures) (c .before .before .before .before .before .before .before .before .put-one .ensures) (c .before .before .put-one2 .ensures)
+returns c =
+    let at-less2 = c .before .before .before in
+    let at-has-bottom = at-less2 .before in
+    let at-put-one = at-has-bottom .before .before .before .before in
+    let at-less = at-put-one .before in
+    let at-has-top = at-less .before in
+    let start = at-has-top .before .before .before .before in
+    let a = start .args in
+    put-written (a .p) (a .letter) (a .m) (a .columns .now) _ _ _ _ _ _ (at-has-top .has-top .ensures) (at-has-bottom .has-bottom .ensures)
+    (at-less .less .ensures) (at-less2 .less2 .ensures) (at-put-one .put-one .ensures) (c .before .before .put-one2 .ensures)
 
 pub put-spec : {M : Type 1} → statement M
 put-spec =

@@ -10,27 +10,57 @@ use Rattle.search.proofs.walk.top_fits.Tie as tie
 
 -- src/walk.rt:95:9
 returns : tie.Need-returns
-returns c = no-row (c .before .before .before .args .work .now) (c .before .before .before .args .rules .now) (c .before .before .before .args .grid) (c .before .before .before .args .p) (c .before .before .before .args .m) (c .before .before .before .args .lefts) (c .if1 .taken)
+returns c =
+    let start = c .before .before .before in
+    let a = start .args in
+    no-row (a .work .now) (a .rules .now) (a .grid) (a .p) (a .m) (a .lefts) (c .if1 .taken)
 
 -- src/walk.rt:98:9
 returns-2 : tie.Need-returns-2
-returns-2 c = no-row-left (c .before .before .before .before .args .work .now) (c .before .before .before .before .args .rules .now) (c .before .before .before .before .args .grid) (c .before .before .before .before .args .p) (c .before .before .before .before .args .m) (c .before .before .before .before .args .lefts) (c .if2 .taken)
+returns-2 c =
+    let start = c .before .before .before .before in
+    let a = start .args in
+    no-row-left (a .work .now) (a .rules .now) (a .grid) (a .p) (a .m) (a .lefts) (c .if2 .taken)
 
 -- src/walk.rt:102:20
 mul-base : tie.Need-mul-base
-mul-base c = omega (arith, base-room (c .before .before .before .before .before .before .before .args .work .now) (c .before .before .before .before .before .before .before .args .rules .now) (c .before .before .before .before .before .before .before .args .grid) (c .before .before .before .before .before .before .before .args .p) (c .before .before .before .before .before .before .before .args .q) (c .before .before .before .before .before .before .before .pre .0) (c .before .before .before .before .before .before .before .args .m .i) (c .before .before .before .before .before .before .before .args .m .j) (c .before .before .before .before .before .before .before .pre .1 .i) (c .before .before .before .before .before .before .before .pre .1 .j))
+mul-base c =
+    let start = c .before .before .before .before .before .before .before in
+    let a = start .args in
+    omega (
+      arith,
+      base-room (a .work .now) (a .rules .now) (a .grid) (a .p) (a .q) (start .pre .0) (a .m .i) (a .m .j) (start .pre .1 .i)
+          (start .pre .1 .j),
+    )
 
 -- src/walk.rt:102:38
 mul-base-2 : tie.Need-mul-base-2
-mul-base-2 c = omega (arith, base-room (c .before .before .before .before .before .before .before .before .before .args .work .now) (c .before .before .before .before .before .before .before .before .before .args .rules .now) (c .before .before .before .before .before .before .before .before .before .args .grid) (c .before .before .before .before .before .before .before .before .before .args .p) (c .before .before .before .before .before .before .before .before .before .args .q) (c .before .before .before .before .before .before .before .before .before .pre .0) (c .before .before .before .before .before .before .before .before .before .args .m .i) (c .before .before .before .before .before .before .before .before .before .args .m .j) (c .before .before .before .before .before .before .before .before .before .pre .1 .i) (c .before .before .before .before .before .before .before .before .before .pre .1 .j))
+mul-base-2 c =
+    let start = c .before .before .before .before .before .before .before .before .before in
+    let a = start .args in
+    omega (
+      arith,
+      base-room (a .work .now) (a .rules .now) (a .grid) (a .p) (a .q) (start .pre .0) (a .m .i) (a .m .j) (start .pre .1 .i)
+          (start .pre .1 .j),
+    )
 
 -- src/walk.rt:102:20
 add-base : tie.Need-add-base
-add-base c = omega (arith, base-room (c .before .before .before .before .before .before .before .before .before .args .work .now) (c .before .before .before .before .before .before .before .before .before .args .rules .now) (c .before .before .before .before .before .before .before .before .before .args .grid) (c .before .before .before .before .before .before .before .before .before .args .p) (c .before .before .before .before .before .before .before .before .before .args .q) (c .before .before .before .before .before .before .before .before .before .pre .0) (c .before .before .before .before .before .before .before .before .before .args .m .i) (c .before .before .before .before .before .before .before .before .before .args .m .j) (c .before .before .before .before .before .before .before .before .before .pre .1 .i) (c .before .before .before .before .before .before .before .before .before .pre .1 .j))
+add-base c =
+    let start = c .before .before .before .before .before .before .before .before .before in
+    let a = start .args in
+    omega (
+      arith,
+      base-room (a .work .now) (a .rules .now) (a .grid) (a .p) (a .q) (start .pre .0) (a .m .i) (a .m .j) (start .pre .1 .i)
+          (start .pre .1 .j),
+    )
 
 -- src/walk.rt:103:13
 stands-at-requires : tie.Need-stands-at-requires
-stands-at-requires c κs = (c .before .before .before .before .before .before .before .before .before .pre .1 .i, λ h. omega (arith, c .before .before .before .before .before .before .before .before .before .pre .1 .top h, c .before .before .before .before .before .if2 .left))
+stands-at-requires c κs =
+    let at-if2 = c .before .before .before .before .before in
+    let start = at-if2 .before .before .before .before in
+    (start .pre .1 .i, λ h. omega (arith, start .pre .1 .top h, at-if2 .if2 .left))
 
 -- src/walk.rt:104:13
 steps-to-requires : tie.Need-steps-to-requires
@@ -39,20 +69,42 @@ steps-to-requires c κs = search needs
 -- src/walk.rt:105:9
 meets-requires : tie.Need-meets-requires
 meets-requires c κs =
-    let a = c .before .before .before .before .before .before .before .before .before .before .before .args in (
-      omega (arith, base-room (c .before .before .before .before .before .before .before .before .before .before .before .args .work .now) (c .before .before .before .before .before .before .before .before .before .before .before .args .rules .now) (c .before .before .before .before .before .before .before .before .before .before .before .args .grid) (c .before .before .before .before .before .before .before .before .before .before .before .args .p) (c .before .before .before .before .before .before .before .before .before .before .before .args .q) (c .before .before .before .before .before .before .before .before .before .before .before .pre .0) (c .before .before .before .before .before .before .before .before .before .before .before .args .m .i) (c .before .before .before .before .before .before .before .before .before .before .before .args .m .j) (c .before .before .before .before .before .before .before .before .before .before .before .pre .1 .i) (c .before .before .before .before .before .before .before .before .before .before .before .pre .1 .j), c .before .before .before .before .before .if3 .taken, c .before .before .before .before .before .before .before .before .before .before .before .pre .0 .sizes .rows .0),
+    let at-if3 = c .before .before .before .before .before in
+    let at-if2 = at-if3 .before .before in
+    let at-if1 = at-if2 .before in
+    let start = at-if1 .before .before .before in
+    let a = start .args in (
+      omega (
+        arith,
+        base-room (start .args .work .now) (start .args .rules .now) (start .args .grid) (start .args .p) (start .args .q)
+            (start .pre .0) (start .args .m .i) (start .args .m .j) (start .pre .1 .i)
+            (start .pre .1 .j),
+        at-if3 .if3 .taken,
+        start .pre .0 .sizes .rows .0,
+      ),
       omega arith,
       rw (c .before .stands-at .ensures)
-          (stands-high (a .m .i) (a .p) (a .m .top) (a .m .c - a .m .i) (λ h. omega (arith, c .before .before .before .before .before .before .before .before .before .before .before .pre .1 .top h, c .before .before .before .before .before .before .before .if2 .left)) (c .before .before .before .before .before .before .before .before .before .before .before .pre .1 .i) (omega (arith, c .before .before .before .before .before .before .before .before .if1 .left, c .before .before .before .before .before .before .before .before .before .before .before .pre .1 .c))),
+          (stands-high (a .m .i) (a .p) (a .m .top) (a .m .c - a .m .i) (λ h. omega (arith, start .pre .1 .top h, at-if2 .if2 .left))
+          (start .pre .1 .i) (omega (arith, at-if1 .if1 .left, start .pre .1 .c))),
     )
 
 -- src/walk.rt:105:9
 returns-3 : tie.Need-returns-3
-returns-3 c = c .meets .ensures ∙ row-here (c .before .before .before .before .before .before .before .before .before .before .before .before .args .work .now) (c .before .before .before .before .before .before .before .before .before .before .before .before .args .rules .now) (c .before .before .before .before .before .before .before .before .before .before .before .before .args .grid) (c .before .before .before .before .before .before .before .before .before .before .before .before .args .p) (c .before .before .before .before .before .before .before .before .before .before .before .before .args .m) (c .before .before .before .before .before .before .before .before .before .before .before .before .args .lefts) _ _ _ (c .before .before .before .before .before .before .before .before .before .if1 .left) (c .before .before .before .before .before .before .before .before .if2 .left) (c .before .before .before .before .before .before .if3 .taken) refl (c .before .before .stands-at .ensures) (c .before .steps-to .ensures)
+returns-3 c =
+    let at-if3 = c .before .before .before .before .before .before in
+    let at-if2 = at-if3 .before .before in
+    let at-if1 = at-if2 .before in
+    let start = at-if1 .before .before .before in
+    let a = start .args in
+    c .meets .ensures ∙ row-here (a .work .now) (a .rules .now) (a .grid) (a .p) (a .m) (a .lefts) _ _ _ (at-if1 .if1 .left)
+    (at-if2 .if2 .left) (at-if3 .if3 .taken) refl (c .before .before .stands-at .ensures) (c .before .steps-to .ensures)
 
 -- src/walk.rt:88:1
 returns-4 : tie.Need-returns-4
-returns-4 c = row-past (c .before .before .before .before .before .before .args .work .now) (c .before .before .before .before .before .before .args .rules .now) (c .before .before .before .before .before .before .args .grid) (c .before .before .before .before .before .before .args .p) (c .before .before .before .before .before .before .args .m) (c .before .before .before .before .before .before .args .lefts) (c .if3 .left)
+returns-4 c =
+    let start = c .before .before .before .before .before .before in
+    let a = start .args in
+    row-past (a .work .now) (a .rules .now) (a .grid) (a .p) (a .m) (a .lefts) (c .if3 .left)
 
 pub top-fits-spec : {M : Type 1} → statement M
 top-fits-spec =

@@ -31,7 +31,10 @@ choose-requires c κs = (c .before .before .before .before .before .pre .0, c .b
 
 -- src/walk.rt:225:9
 put-requires : tie.Need-put-requires Inv-loop μ-loop
-put-requires c κs = (c .before .before .before .loop .inv .1 .c, c .before .before .before .loop .inv .1 .i, omega (arith, c .before .before .before .before .before .before .before .pre .2, c .before .before .before .loop .inv .2, c .before .before .before .loop .inv .1 .j))
+put-requires c κs =
+    let at-loop = c .before .before .before in
+    let start = at-loop .before .before .before .before in
+    (at-loop .loop .inv .1 .c, at-loop .loop .inv .1 .i, omega (arith, start .pre .2, at-loop .loop .inv .2, at-loop .loop .inv .1 .j))
 
 -- src/walk.rt:226:9
 go-requires : tie.Need-go-requires Inv-loop μ-loop
@@ -48,12 +51,19 @@ loop-less c = omega (arith, c .before .before .before .before .before .before .l
 -- src/walk.rt:223:5
 loop-again : tie.Need-loop-again Inv-loop μ-loop
 loop-again c =
-    let a = c .before .before .before .before .before .before .before .before .before .before .before .args in
-    let o = c .before .before .before .before .before .before .before .loop in (
+    let at-put = c .before .before .before in
+    let at-choose = at-put .before .before in
+    let at-loop-test = at-choose .before in
+    let at-loop = at-loop-test .before in
+    let start = at-loop .before .before .before .before in
+    let a = start .args in
+    let o = at-loop .loop in (
       ap (λ (n : ℕ). n - 1) (o .inv .0) ∙ sym (ap (λ (x : Mark). x .c) (c .go .ensures)),
-      rw (c .go .ensures) (walks-on (a .p) (a .q) (c .before .before .before .before .before .choose .result) (o .m) (omega (arith, c .before .before .before .before .before .before .loop-test .taken, o .inv .0)) (o .inv .1)),
-      c .before .before .before .put .kept .0 ∙ o .inv .2,
-      walked-more (a .work .now) (a .rules .now) (a .grid) (a .p) (a .q) (o .left) (c .before .before .before .before .before .choose .result) (o .m) _ (o .columns) _ (c .before .before .before .before .before .before .loop-test .taken) (c .before .before .before .before .before .choose .ensures) (c .go .ensures) (c .before .before .before .put .ensures)
+      rw (c .go .ensures) (walks-on (a .p) (a .q) (at-choose .choose .result) (o .m)
+          (omega (arith, at-loop-test .loop-test .taken, o .inv .0)) (o .inv .1)),
+      at-put .put .kept .0 ∙ o .inv .2,
+      walked-more (a .work .now) (a .rules .now) (a .grid) (a .p) (a .q) (o .left) (at-choose .choose .result) (o .m) _ (o .columns) _
+          (at-loop-test .loop-test .taken) (at-choose .choose .ensures) (c .go .ensures) (at-put .put .ensures)
           ∙ o .inv .3,
     )
 

@@ -1,0 +1,30 @@
+// An answer in the rules' numbers.
+use crate::Searched;
+ghost use mathlib.Core.Path.{_≡_};
+ghost use Rattle.search.specs.Answer.{numberOf, densityOf};
+
+// The number of a refusal; 0 with a density.
+pub fn number_of(answer: Searched) -> u8
+    ensures { λ r. ⌜ r ≡ numberOf answer ⌝ }
+{
+    match answer {
+        Searched::Found(_) => 0,
+        Searched::Sheet(why) => sheet::number_of(why),
+        Searched::Columns => 9,
+        Searched::Cells => 10,
+        Searched::NoAssignment => 11,
+    }
+}
+
+// The density; 0 with a refusal.
+pub fn density_of(answer: Searched) -> u8
+    ensures { λ r. ⌜ r ≡ densityOf answer ⌝ }
+{
+    match answer {
+        Searched::Found(density) => density,
+        Searched::Sheet(_) => 0,
+        Searched::Columns => 0,
+        Searched::Cells => 0,
+        Searched::NoAssignment => 0,
+    }
+}
