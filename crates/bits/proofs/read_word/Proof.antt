@@ -53,22 +53,88 @@ cast-d : tie.Need-cast-d
 cast-d c = omega (arith, c .shared-slice-known4 .given (c .before .before .before .before .args .at + 3))
 
 mul-result : tie.Need-mul-result
-mul-result c = omega (arith, c .before .before .before .shared-slice-known .given (c .before .before .before .before .args .at), c .before .before .shared-slice-known2 .given (c .before .before .before .before .args .at + 1), c .before .shared-slice-known3 .given (c .before .before .before .before .args .at + 2), c .shared-slice-known4 .given (c .before .before .before .before .args .at + 3))
+mul-result c =
+    let at-shared-slice-known = c .before .before .before in
+    let start = at-shared-slice-known .before in
+    let a = start .args in
+    omega (
+      arith,
+      at-shared-slice-known .shared-slice-known .given (a .at),
+      c .before .before .shared-slice-known2 .given
+          (a .at + 1),
+      c .before .shared-slice-known3 .given (a .at + 2),
+      c .shared-slice-known4 .given (a .at + 3),
+    )
 
 add-result : tie.Need-add-result
-add-result c = omega (arith, c .before .before .before .shared-slice-known .given (c .before .before .before .before .args .at), c .before .before .shared-slice-known2 .given (c .before .before .before .before .args .at + 1), c .before .shared-slice-known3 .given (c .before .before .before .before .args .at + 2), c .shared-slice-known4 .given (c .before .before .before .before .args .at + 3))
+add-result c =
+    let at-shared-slice-known = c .before .before .before in
+    let start = at-shared-slice-known .before in
+    let a = start .args in
+    omega (
+      arith,
+      at-shared-slice-known .shared-slice-known .given (a .at),
+      c .before .before .shared-slice-known2 .given
+          (a .at + 1),
+      c .before .shared-slice-known3 .given (a .at + 2),
+      c .shared-slice-known4 .given (a .at + 3),
+    )
 
 mul-result-2 : tie.Need-mul-result-2
-mul-result-2 c = omega (arith, c .before .before .before .shared-slice-known .given (c .before .before .before .before .args .at), c .before .before .shared-slice-known2 .given (c .before .before .before .before .args .at + 1), c .before .shared-slice-known3 .given (c .before .before .before .before .args .at + 2), c .shared-slice-known4 .given (c .before .before .before .before .args .at + 3))
+mul-result-2 c =
+    let at-shared-slice-known = c .before .before .before in
+    let start = at-shared-slice-known .before in
+    let a = start .args in
+    omega (
+      arith,
+      at-shared-slice-known .shared-slice-known .given (a .at),
+      c .before .before .shared-slice-known2 .given
+          (a .at + 1),
+      c .before .shared-slice-known3 .given (a .at + 2),
+      c .shared-slice-known4 .given (a .at + 3),
+    )
 
 add-result-2 : tie.Need-add-result-2
-add-result-2 c = omega (arith, c .before .before .before .shared-slice-known .given (c .before .before .before .before .args .at), c .before .before .shared-slice-known2 .given (c .before .before .before .before .args .at + 1), c .before .shared-slice-known3 .given (c .before .before .before .before .args .at + 2), c .shared-slice-known4 .given (c .before .before .before .before .args .at + 3))
+add-result-2 c =
+    let at-shared-slice-known = c .before .before .before in
+    let start = at-shared-slice-known .before in
+    let a = start .args in
+    omega (
+      arith,
+      at-shared-slice-known .shared-slice-known .given (a .at),
+      c .before .before .shared-slice-known2 .given
+          (a .at + 1),
+      c .before .shared-slice-known3 .given (a .at + 2),
+      c .shared-slice-known4 .given (a .at + 3),
+    )
 
 mul-result-3 : tie.Need-mul-result-3
-mul-result-3 c = omega (arith, c .before .before .before .shared-slice-known .given (c .before .before .before .before .args .at), c .before .before .shared-slice-known2 .given (c .before .before .before .before .args .at + 1), c .before .shared-slice-known3 .given (c .before .before .before .before .args .at + 2), c .shared-slice-known4 .given (c .before .before .before .before .args .at + 3))
+mul-result-3 c =
+    let at-shared-slice-known = c .before .before .before in
+    let start = at-shared-slice-known .before in
+    let a = start .args in
+    omega (
+      arith,
+      at-shared-slice-known .shared-slice-known .given (a .at),
+      c .before .before .shared-slice-known2 .given
+          (a .at + 1),
+      c .before .shared-slice-known3 .given (a .at + 2),
+      c .shared-slice-known4 .given (a .at + 3),
+    )
 
 add-result-3 : tie.Need-add-result-3
-add-result-3 c = omega (arith, c .before .before .before .shared-slice-known .given (c .before .before .before .before .args .at), c .before .before .shared-slice-known2 .given (c .before .before .before .before .args .at + 1), c .before .shared-slice-known3 .given (c .before .before .before .before .args .at + 2), c .shared-slice-known4 .given (c .before .before .before .before .args .at + 3))
+add-result-3 c =
+    let at-shared-slice-known = c .before .before .before in
+    let start = at-shared-slice-known .before in
+    let a = start .args in
+    omega (
+      arith,
+      at-shared-slice-known .shared-slice-known .given (a .at),
+      c .before .before .shared-slice-known2 .given
+          (a .at + 1),
+      c .before .shared-slice-known3 .given (a .at + 2),
+      c .shared-slice-known4 .given (a .at + 3),
+    )
 
 returns : tie.Need-returns
 unfolding wordAt

@@ -62,11 +62,16 @@ list-density-requires c κs = search needs
 
 returns-4 : tie.Need-returns-4
 returns-4 c =
-    let s = c .before .before .before .before .before .before .before .before .before .before .before .before in
+    let at-if2 = c .before .before .before in
+    let at-all-allowed2 = at-if2 .before in
+    let at-if1 = at-all-allowed2 .before in
+    let at-all-allowed = at-if1 .before in
+    let at-before = at-all-allowed .before .before .before .before .before in
+    let s = at-before .before in
     let a = s .args in
     measured (a .l) (terminalsIn (a .top .now)) (terminalsIn (a .bottom .now)) (a .columns .now) (a .p) (s .pre .tops)
-    (sym (c .before .before .before .before .before .before .all-allowed .ensures) ∙ not-false _ (c .before .before .before .before .before .if1 .left))
-    (sym (c .before .before .before .before .all-allowed2 .ensures) ∙ not-false _ (c .before .before .before .if2 .left))
+    (sym (at-all-allowed .all-allowed .ensures) ∙ not-false _ (at-if1 .if1 .left))
+    (sym (at-all-allowed2 .all-allowed2 .ensures) ∙ not-false _ (at-if2 .if2 .left))
     (c .before .before .out-of-range .result)
     (c .before .before .out-of-range .ensures)
     (c .before .if3 .left)

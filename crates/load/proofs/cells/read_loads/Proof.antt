@@ -52,8 +52,10 @@ same-length c = search needs
 
 returns : tie.Need-returns
 returns c =
-    let a = c .before .before .before .before .before .before .before .before .before .before .before .before .before .before .args in
-    both-loads (a .top .now) (a .bottom .now) (all-nets (c .before .before .before .before .before .before)) _ _ (c .before .before .tabulate .ensures)
+    let at-before = c .before .before .before .before .before in
+    let start = at-before .before .before .before .before .before .before .before .before .before in
+    let a = start .args in
+    both-loads (a .top .now) (a .bottom .now) (all-nets (at-before .before)) _ _ (c .before .before .tabulate .ensures)
 
 pub read-loads-spec : {M : Type 1} → statement M
 read-loads-spec =

@@ -36,12 +36,18 @@ same-length c = search needs
 
 returns : tie.Need-returns
 returns c =
-    let d = c .before .before .before .before .before .before .before .before .before .before .before in
+    let at-loads-at = c .before .before .before .before in
+    let at-stand-at2 = at-loads-at .before in
+    let at-stand-at = at-stand-at2 .before in
+    let at-before = at-stand-at .before .before .before .before in
+    let d = at-before .before in
     let a = d .args in
-    write-cell (a .tops .now) (a .bottoms .now) (a .spans .now) (d .pre .0) (a .i) (a .j) (d .pre .1) (d .pre .2) (a .loads .now) _ (c .before .before .before .before .loads-at .result)
+    write-cell (a .tops .now) (a .bottoms .now) (a .spans .now) (d .pre .0) (a .i) (a .j) (d .pre .1) (d .pre .2) (a .loads .now) _
+    (at-loads-at .loads-at .result)
     (omega (arith, d .pre .0 .top, d .pre .0 .bottom, d .pre .1, d .pre .2, d .pre .3))
-    (c .before .before .before .before .loads-at .ensures
-    ∙ ap₂ (λ (x y : Stand). loadsAt (a .spans .now) (record { top = x; bottom = y })) (c .before .before .before .before .before .before .stand-at .ensures) (c .before .before .before .before .before .stand-at2 .ensures))
+    (at-loads-at .loads-at .ensures
+    ∙ ap₂ (λ (x y : Stand). loadsAt (a .spans .now) (record { top = x; bottom = y })) (at-stand-at .stand-at .ensures)
+    (at-stand-at2 .stand-at2 .ensures))
     (c .before .before .store .ensures)
 
 pub write-cell-spec : {M : Type 1} → statement M

@@ -33,10 +33,13 @@ loop-less c = omega arith
 
 loop-again : tie.Need-loop-again Inv-loop μ-loop
 loop-again c =
-    let a = c .before .before .before .before .before .args in
-    let l = c .before .before .before .loop in (
+    let at-loop = c .before .before .before in
+    let start = at-loop .before .before in
+    let a = start .args in
+    let l = at-loop .loop in (
       omega arith,
-      c .with-net .ensures ∙ ap₂ (withNet (a .c)) (l .inv .1) (c .before .span-at .ensures) ∙ sym (ap (loadsTo (a .spans .now) (a .c)) (add-one (l .m))),
+      c .with-net .ensures ∙ ap₂ (withNet (a .c)) (l .inv .1) (c .before .span-at .ensures) ∙ sym
+          (ap (loadsTo (a .spans .now) (a .c)) (add-one (l .m))),
     )
 
 returns : tie.Need-returns Inv-loop μ-loop

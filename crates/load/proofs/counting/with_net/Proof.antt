@@ -25,10 +25,14 @@ add-if-requires-3 c κs = search needs
 
 returns : tie.Need-returns
 returns c =
-    let x = c .before .before .before .before .before .crosses in
-    let y = c .before .before .before .before .crosses2 in
-    let z = c .before .before .before .crosses3 in
-    net-more _ _ _ _ _ _ _ _ _ (x .ensures) (y .ensures) (z .ensures) (c .before .before .add-if .ensures) (c .before .add-if2 .ensures) (c .add-if3 .ensures)
+    let at-crosses3 = c .before .before .before in
+    let at-crosses2 = at-crosses3 .before in
+    let at-crosses = at-crosses2 .before in
+    let x = at-crosses .crosses in
+    let y = at-crosses2 .crosses2 in
+    let z = at-crosses3 .crosses3 in
+    net-more _ _ _ _ _ _ _ _ _ (x .ensures) (y .ensures) (z .ensures) (c .before .before .add-if .ensures) (c .before .add-if2 .ensures)
+    (c .add-if3 .ensures)
 
 pub with-net-spec : {M : Type 1} → statement M
 with-net-spec =

@@ -43,12 +43,14 @@ loop-less c = omega arith
 
 loop-again : tie.Need-loop-again Inv-loop μ-loop
 loop-again c =
-    let a = c .before .before .before .before .before .args in
+    let start = c .before .before .before .before .before in
+    let a = start .args in
     let l = c .before .before .loop in
     let part = a .part .now in (
       length-set (l .nets) (a .from + l .i) (c .net-of .result) ∙ l .inv .0,
       omega arith,
-      rw (c .net-of .ensures) (fill-more (l .nets) (a .nets .now) (netsIn part) (a .from) (l .i) (omega arith) (omega (arith, length-nets part)) (l .inv .2)),
+      rw (c .net-of .ensures) (fill-more (l .nets) (a .nets .now) (netsIn part) (a .from) (l .i) (omega arith)
+          (omega (arith, length-nets part)) (l .inv .2)),
     )
 
 same-length : tie.Need-same-length Inv-loop μ-loop
@@ -56,9 +58,11 @@ same-length c = c .before .loop .inv .0
 
 returns : tie.Need-returns Inv-loop μ-loop
 returns c =
-    let a = c .before .before .before .before .args in
+    let start = c .before .before .before .before in
+    let a = start .args in
     let l = c .before .loop in
-    fill-done (l .nets) (a .nets .now) (netsIn (a .part .now)) (a .from) (l .i) (length (a .part .now) / 12) (omega arith) (length-nets (a .part .now)) (l .inv .2)
+    fill-done (l .nets) (a .nets .now) (netsIn (a .part .now)) (a .from) (l .i) (length (a .part .now) / 12) (omega arith)
+    (length-nets (a .part .now)) (l .inv .2)
 
 pub read-nets-spec : {M : Type 1} → statement M
 read-nets-spec =

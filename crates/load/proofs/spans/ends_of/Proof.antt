@@ -41,10 +41,13 @@ loop-less c = omega arith
 
 loop-again : tie.Need-loop-again Inv-loop μ-loop
 loop-again c =
-    let a = c .before .before .before .before .before .args in
-    let l = c .before .before .before .loop in (
+    let at-loop = c .before .before .before in
+    let start = at-loop .before .before in
+    let a = start .args in
+    let l = at-loop .loop in (
       omega arith,
-      ap (λ (e : Ends). endsFrom e (a .net) (l .i + 1) (drop (l .i + 1) (a .ns .now))) (c .reach .ensures) ∙ sym (ends-at (l .e) (a .net) (a .ns .now) (l .i) (c .before .before .loop-test .taken)) ∙ l .inv .1,
+      ap (λ (e : Ends). endsFrom e (a .net) (l .i + 1) (drop (l .i + 1) (a .ns .now))) (c .reach .ensures) ∙ sym
+          (ends-at (l .e) (a .net) (a .ns .now) (l .i) (c .before .before .loop-test .taken)) ∙ l .inv .1,
     )
 
 returns : tie.Need-returns Inv-loop μ-loop

@@ -40,10 +40,12 @@ loop-less c = simp length-set (omega arith)
 
 loop-again : tie.Need-loop-again Inv-loop μ-loop
 loop-again c =
-    let a = c .before .before .before .before .before .args in
+    let start = c .before .before .before .before .before in
+    let a = start .args in
     let l = c .before .before .loop in (
       simp length-set (l .inv .0),
-      nets-more (a .part .now) (l .nets) (l .i) (l .inv .1) (c .before .loop-test .taken) (omega arith) (c .terminal-at .result) (c .terminal-at .ensures),
+      nets-more (a .part .now) (l .nets) (l .i) (l .inv .1) (c .before .loop-test .taken) (omega arith) (c .terminal-at .result)
+          (c .terminal-at .ensures),
     )
 
 same-length : tie.Need-same-length Inv-loop μ-loop

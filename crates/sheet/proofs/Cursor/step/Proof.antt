@@ -14,7 +14,9 @@ shape-of-requires c κs = search needs
 
 returns : tie.Need-returns
 unfolding shapeOf stepOf
-returns c = let a = c .before .before .before .before .args in step-end (a .self .passed) (read (a .s .now)) (rw (c .before .before .shape-of .ensures) at (c .if1 .taken))
+returns c =
+    let start = c .before .before .before .before in
+    let a = start .args in step-end (a .self .passed) (read (a .s .now)) (rw (c .before .before .shape-of .ensures) at (c .if1 .taken))
 
 add-t8 : tie.Need-add-t8
 add-t8 c = search needs
@@ -33,7 +35,11 @@ visit-requires-2 c κs = search needs
 
 returns-2 : tie.Need-returns-2
 unfolding shapeOf stepOf entryAt
-returns-2 c = let a = c .before .before .before .before .before .before .args in c .visit .ensures ∙ step-top (a .self .passed) (read (a .s .now)) (rw (c .before .before .before .before .shape-of .ensures) at (c .before .if2 .taken))
+returns-2 c =
+    let at-shape-of = c .before .before .before .before in
+    let start = at-shape-of .before .before in
+    let a = start .args in c .visit .ensures ∙ step-top (a .self .passed) (read (a .s .now))
+    (rw (at-shape-of .shape-of .ensures) at (c .before .if2 .taken))
 
 returns-3 : tie.Need-returns-3
 unfolding shapeOf stepOf entryAt

@@ -30,7 +30,8 @@ part-of-requires c κs = search needs
 
 -- the part ends in the sheet
 room : (c : tie.After-struct-known)
-    → c .before .part-of .result .at + 12 * c .before .part-of .result .count ≤ length (c .before .before .before .before .before .before .before .args .s .now)
+    → c .before .part-of .result .at + 12 * c .before .part-of .result .count ≤ length
+    (c .before .before .before .before .before .before .before .args .s .now)
 room c =
     open-room _ _ (c .before .before .before .before .before .sound-trailer .ensures) _ (c .before .before .before .found .given .1)
     (c .before .before .before .before .before .before .before .args .side) _
@@ -53,9 +54,13 @@ part-result-end c = room c
 
 returns-2 : tie.Need-returns-2
 returns-2 c =
+    let at-found = c .before .before .before .before in
+    let at-sound-trailer = at-found .before .before in
+    let start = at-sound-trailer .before .before in
+    let a = start .args in
     let part = c .before .before .part-of .result in
-    ap (λ (k : ℕ). take k (drop (part .at) (c .before .before .before .before .before .before .before .before .args .s .now))) (add-sub-cancel-left (part .at) (12 * part .count))
-    ∙ open-section _ _ (c .before .before .before .before .before .before .sound-trailer .ensures) _ (c .before .before .before .before .found .given .1) (c .before .before .before .before .before .before .before .before .args .side) part (c .before .before .part-of .ensures)
+    ap (λ (k : ℕ). take k (drop (part .at) (a .s .now))) (add-sub-cancel-left (part .at) (12 * part .count))
+    ∙ open-section _ _ (at-sound-trailer .sound-trailer .ensures) _ (at-found .found .given .1) (a .side) part (c .before .before .part-of .ensures)
 
 pub section-spec : {M : Type 1} → statement M
 section-spec =

@@ -32,13 +32,30 @@ enum-told-4 : tie.Need-enum-told-4
 enum-told-4 c = search needs
 
 returns-2 : tie.Need-returns-2
-returns-2 c = top-refuses _ _ _ (c .before .before .before .read-trailer .ensures) (sym (c .before .before .before .before .before .before .check-form .ensures) ∙ c .before .before .before .before .enum-told .given .1) _ (c .before .before .check-side .ensures) (c .enum-told4 .given .1)
+returns-2 c =
+    let at-read-trailer = c .before .before .before in
+    let at-enum-told = at-read-trailer .before in
+    let at-check-form = at-enum-told .before .before in
+    top-refuses _ _ _ (at-read-trailer .read-trailer .ensures)
+    (sym (at-check-form .check-form .ensures) ∙ at-enum-told .enum-told .given .1) _ (c .before .before .check-side .ensures)
+    (c .enum-told4 .given .1)
 
 check-side-requires-2 : tie.Need-check-side-requires-2
-check-side-requires-2 c κs = rw (c .before .before .before .read-trailer .ensures) (formed _ (sym (c .before .before .before .before .before .before .check-form .ensures) ∙ c .before .before .before .before .enum-told .given .1) .room Bottom)
+check-side-requires-2 c κs =
+    let at-read-trailer = c .before .before .before in
+    let at-enum-told = at-read-trailer .before in
+    let at-check-form = at-enum-told .before .before in
+    rw (at-read-trailer .read-trailer .ensures) (formed _ (sym (at-check-form .check-form .ensures) ∙ at-enum-told .enum-told .given .1) .room Bottom)
 
 returns-3 : tie.Need-returns-3
-returns-3 c = bottom-answers _ _ _ (c .before .before .before .before .read-trailer .ensures) (sym (c .before .before .before .before .before .before .before .check-form .ensures) ∙ c .before .before .before .before .before .enum-told .given .1) (sym (c .before .before .before .check-side .ensures) ∙ c .before .enum-told3 .given .1) (c .check-side2 .ensures)
+returns-3 c =
+    let at-check-side = c .before .before .before in
+    let at-read-trailer = at-check-side .before in
+    let at-enum-told = at-read-trailer .before in
+    let at-check-form = at-enum-told .before .before in
+    bottom-answers _ _ _ (at-read-trailer .read-trailer .ensures)
+    (sym (at-check-form .check-form .ensures) ∙ at-enum-told .enum-told .given .1)
+    (sym (at-check-side .check-side .ensures) ∙ c .before .enum-told3 .given .1) (c .check-side2 .ensures)
 
 pub check-spec : {M : Type 1} → statement M
 check-spec =

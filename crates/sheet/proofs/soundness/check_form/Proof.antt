@@ -22,7 +22,15 @@ check-trailer-requires c κs = search needs
 
 returns-2 : tie.Need-returns-2
 unfolding formOf
-returns-2 c = simp (le-ltb _ _ (c .before .before .before .before .before .if1 .left), sym (c .before .before .before .has-mark .ensures) ∙ c .before .before .if2 .taken, ← c .before .read-trailer .ensures) (c .check-trailer .ensures)
+returns-2 c =
+    let at-has-mark = c .before .before .before in
+    let at-if1 = at-has-mark .before .before in
+    simp (
+      le-ltb _ _ (at-if1 .if1 .left),
+      sym (at-has-mark .has-mark .ensures)
+          ∙ c .before .before .if2 .taken,
+      ← c .before .read-trailer .ensures,
+    ) (c .check-trailer .ensures)
 
 returns-3 : tie.Need-returns-3
 unfolding formOf

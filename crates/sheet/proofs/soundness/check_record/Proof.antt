@@ -19,11 +19,27 @@ names-above-requires c κs = search needs
 
 returns-2 : tie.Need-returns-2
 unfolding terminalCheck
-returns-2 c = simp (ne-eqb _ _ (c .before .before .before .before .if1 .left), sym (c .before .before .before .keeps-rule .ensures) ∙ c .before .before .if2 .taken, sym (c .before .names-above .ensures) ∙ c .if3 .taken)
+returns-2 c =
+    let at-keeps-rule = c .before .before .before in
+    let at-if1 = at-keeps-rule .before in
+    simp (
+      ne-eqb _ _ (at-if1 .if1 .left),
+      sym (at-keeps-rule .keeps-rule .ensures) ∙ c .before .before .if2 .taken,
+      sym
+          (c .before .names-above .ensures) ∙ c .if3 .taken,
+    )
 
 returns-3 : tie.Need-returns-3
 unfolding terminalCheck
-returns-3 c = simp (ne-eqb _ _ (c .before .before .before .before .if1 .left), sym (c .before .before .before .keeps-rule .ensures) ∙ c .before .before .if2 .taken, sym (c .before .names-above .ensures) ∙ c .if3 .left)
+returns-3 c =
+    let at-keeps-rule = c .before .before .before in
+    let at-if1 = at-keeps-rule .before in
+    simp (
+      ne-eqb _ _ (at-if1 .if1 .left),
+      sym (at-keeps-rule .keeps-rule .ensures) ∙ c .before .before .if2 .taken,
+      sym
+          (c .before .names-above .ensures) ∙ c .if3 .left,
+    )
 
 returns-4 : tie.Need-returns-4
 unfolding terminalCheck

@@ -16,10 +16,15 @@ enum-told : tie.Need-enum-told
 enum-told c = search needs
 
 returns : tie.Need-returns
-returns c = let a = c .before .before .before .before .before .args in ap (visitOf (a .side) (a .place) (a .next)) (sym (c .before .entry .given .1) ∙ c .before .before .before .record-at .ensures)
+returns c =
+    let at-record-at = c .before .before .before in
+    let start = at-record-at .before .before in
+    let a = start .args in ap (visitOf (a .side) (a .place) (a .next)) (sym (c .before .entry .given .1) ∙ at-record-at .record-at .ensures)
 
 returns-2 : tie.Need-returns-2
-returns-2 c = let a = c .before .before .before .before .args in ap (visitOf (a .side) (a .place) (a .next)) (sym (c .enum-told .given .1) ∙ c .before .before .record-at .ensures)
+returns-2 c =
+    let start = c .before .before .before .before in
+    let a = start .args in ap (visitOf (a .side) (a .place) (a .next)) (sym (c .enum-told .given .1) ∙ c .before .before .record-at .ensures)
 
 pub visit-spec : {M : Type 1} → statement M
 visit-spec = tie.close (tie.spec record-at-requires enum-known-entry enum-told returns returns-2)

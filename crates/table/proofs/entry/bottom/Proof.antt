@@ -13,7 +13,11 @@ use Rattle.table.proofs.entry.bottom.Statement.{statement}
 use Rattle.table.proofs.entry.bottom.Tie as tie
 
 returns : tie.Need-returns
-returns c = λ y h. bit-zero y ∙ no-bottom (c .before .before .before .before .args .rules .now) (c .before .before .before .before .args .loads .now) (c .before .before .before .before .args .bound) (c .before .before .before .before .args .place .i) (c .before .before .before .before .args .place .j) (c .before .before .before .before .args .place .x) y (held (c .before .before .before .before .args .work .now) (c .before .before .before .before .args .place .at - c .before .before .before .before .args .grid .size)) (c .if1 .taken)
+returns c =
+    let start = c .before .before .before .before in
+    let a = start .args in
+    λ y h. bit-zero y ∙ no-bottom (a .rules .now) (a .loads .now) (a .bound) (a .place .i) (a .place .j) (a .place .x) y
+    (held (a .work .now) (a .place .at - a .grid .size)) (c .if1 .taken)
 
 within-requires : tie.Need-within-requires
 within-requires c κs = search needs
@@ -47,12 +51,24 @@ add-if3 c = search needs
 
 returns-2 : tie.Need-returns-2
 unfolding stepped
-returns-2 c = λ y h.
+returns-2 c =
+    let at-steps = c .before .before .before in
+    let at-range = at-steps .before in
+    let at-read-word = at-range .before in
+    let at-if2 = at-read-word .before .before .before in
+    let at-within = at-if2 .before in
+    let at-if1 = at-within .before in
+    let start = at-if1 .before .before .before .before in
+    let a = start .args in
+    λ y h.
     c .before .both .ensures y
     ∙ sym (and-true _)
-    ∙ bottom-found (c .before .before .before .before .before .before .before .before .before .before .before .before .before .before .args .rules .now) (c .before .before .before .before .before .before .before .before .before .before .before .before .before .before .args .loads .now) (c .before .before .before .before .before .before .before .before .before .before .before .before .before .before .args .bound) (c .before .before .before .before .before .before .before .before .before .before .before .before .before .before .args .place .i) (c .before .before .before .before .before .before .before .before .before .before .before .before .before .before .args .place .j) (c .before .before .before .before .before .before .before .before .before .before .before .before .before .before .args .place .x) y (held (c .before .before .before .before .before .before .before .before .before .before .before .before .before .before .args .work .now) (c .before .before .before .before .before .before .before .before .before .before .before .before .before .before .args .place .at - c .before .before .before .before .before .before .before .before .before .before .before .before .before .before .args .grid .size)) _ _ _ (c .before .before .before .before .before .before .before .before .before .before .if1 .left) (sym (c .before .before .before .before .before .before .before .before .before .within .ensures) ∙ c .before .before .before .before .before .before .before .before .if2 .taken)
-    (c .before .before .before .steps .ensures y h ∙ ap₂ (λ (v w : ℕ). stepped v w y) (c .before .before .before .before .before .read-word .ensures) (c .before .before .before .before .range .ensures))
-    (ap (λ (w : ℕ). bitOf w y) (c .before .before .allowed .ensures)) (all-behind (c .before .before .before .before .before .before .before .before .before .before .before .before .before .before .args .rules .now) (c .before .before .before .before .before .before .before .before .before .before .before .before .before .before .args .loads .now) (c .before .before .before .before .before .before .before .before .before .before .before .before .before .before .args .bound) (c .before .before .before .before .before .before .before .before .before .before .before .before .before .before .args .place .i) (c .before .before .before .before .before .before .before .before .before .before .before .before .before .before .args .place .j) (c .before .before .before .before .before .before .before .before .before .before .before .before .before .before .args .place .x) y (held (c .before .before .before .before .before .before .before .before .before .before .before .before .before .before .args .work .now) (c .before .before .before .before .before .before .before .before .before .before .before .before .before .before .args .place .at - c .before .before .before .before .before .before .before .before .before .before .before .before .before .before .args .grid .size)) (c .if3 .taken))
+    ∙ bottom-found (a .rules .now) (a .loads .now) (a .bound) (a .place .i) (a .place .j) (a .place .x) y
+    (held (a .work .now) (a .place .at - a .grid .size)) _ _ _ (at-if1 .if1 .left) (sym (at-within .within .ensures) ∙ at-if2 .if2 .taken)
+    (at-steps .steps .ensures y h ∙ ap₂ (λ (v w : ℕ). stepped v w y) (at-read-word .read-word .ensures) (at-range .range .ensures))
+    (ap (λ (w : ℕ). bitOf w y) (c .before .before .allowed .ensures))
+    (all-behind (a .rules .now) (a .loads .now) (a .bound) (a .place .i) (a .place .j) (a .place .x) y
+    (held (a .work .now) (a .place .at - a .grid .size)) (c .if3 .taken))
 
 add-from : tie.Need-add-from
 add-from c = search needs
@@ -71,15 +87,33 @@ both-requires-2 c κs = search needs
 
 returns-3 : tie.Need-returns-3
 unfolding stepped
-returns-3 c = λ y h.
+returns-3 c =
+    let at-both = c .before .before .before in
+    let at-allowed = at-both .before in
+    let at-steps = at-allowed .before in
+    let at-range = at-steps .before in
+    let at-read-word = at-range .before in
+    let at-if2 = at-read-word .before .before .before in
+    let at-within = at-if2 .before in
+    let at-if1 = at-within .before in
+    let start = at-if1 .before .before .before .before in
+    let a = start .args in
+    λ y h.
     c .both2 .ensures y
-    ∙ ap (λ (t : Bool). t && bitOf (c .before .from .result) y) (c .before .before .before .both .ensures y)
-    ∙ bottom-found (c .before .before .before .before .before .before .before .before .before .before .before .before .before .before .before .before .args .rules .now) (c .before .before .before .before .before .before .before .before .before .before .before .before .before .before .before .before .args .loads .now) (c .before .before .before .before .before .before .before .before .before .before .before .before .before .before .before .before .args .bound) (c .before .before .before .before .before .before .before .before .before .before .before .before .before .before .before .before .args .place .i) (c .before .before .before .before .before .before .before .before .before .before .before .before .before .before .before .before .args .place .j) (c .before .before .before .before .before .before .before .before .before .before .before .before .before .before .before .before .args .place .x) y (held (c .before .before .before .before .before .before .before .before .before .before .before .before .before .before .before .before .args .work .now) (c .before .before .before .before .before .before .before .before .before .before .before .before .before .before .before .before .args .place .at - c .before .before .before .before .before .before .before .before .before .before .before .before .before .before .before .before .args .grid .size)) _ _ _ (c .before .before .before .before .before .before .before .before .before .before .before .before .if1 .left) (sym (c .before .before .before .before .before .before .before .before .before .before .before .within .ensures) ∙ c .before .before .before .before .before .before .before .before .before .before .if2 .taken)
-    (c .before .before .before .before .before .steps .ensures y h ∙ ap₂ (λ (v w : ℕ). stepped v w y) (c .before .before .before .before .before .before .before .read-word .ensures) (c .before .before .before .before .before .before .range .ensures))
-    (ap (λ (w : ℕ). bitOf w y) (c .before .before .before .before .allowed .ensures)) (c .before .from .ensures y h ∙ from-behind (c .before .before .before .before .before .before .before .before .before .before .before .before .before .before .before .before .args .rules .now) (c .before .before .before .before .before .before .before .before .before .before .before .before .before .before .before .before .args .loads .now) (c .before .before .before .before .before .before .before .before .before .before .before .before .before .before .before .before .args .bound) (c .before .before .before .before .before .before .before .before .before .before .before .before .before .before .before .before .args .place .i) (c .before .before .before .before .before .before .before .before .before .before .before .before .before .before .before .before .args .place .j) (c .before .before .before .before .before .before .before .before .before .before .before .before .before .before .before .before .args .place .x) y (held (c .before .before .before .before .before .before .before .before .before .before .before .before .before .before .before .before .args .work .now) (c .before .before .before .before .before .before .before .before .before .before .before .before .before .before .before .before .args .place .at - c .before .before .before .before .before .before .before .before .before .before .before .before .before .before .before .before .args .grid .size)) (c .before .before .if3 .left))
+    ∙ ap (λ (t : Bool). t && bitOf (c .before .from .result) y) (at-both .both .ensures y)
+    ∙ bottom-found (a .rules .now) (a .loads .now) (a .bound) (a .place .i) (a .place .j) (a .place .x) y
+    (held (a .work .now) (a .place .at - a .grid .size)) _ _ _ (at-if1 .if1 .left) (sym (at-within .within .ensures) ∙ at-if2 .if2 .taken)
+    (at-steps .steps .ensures y h ∙ ap₂ (λ (v w : ℕ). stepped v w y) (at-read-word .read-word .ensures) (at-range .range .ensures))
+    (ap (λ (w : ℕ). bitOf w y) (at-allowed .allowed .ensures))
+    (c .before .from .ensures y h ∙ from-behind (a .rules .now) (a .loads .now) (a .bound) (a .place .i) (a .place .j) (a .place .x) y
+    (held (a .work .now) (a .place .at - a .grid .size)) (c .before .before .if3 .left))
 
 returns-4 : tie.Need-returns-4
-returns-4 c = λ y h. bit-zero y ∙ bottom-heavy (c .before .before .before .before .before .before .args .rules .now) (c .before .before .before .before .before .before .args .loads .now) (c .before .before .before .before .before .before .args .bound) (c .before .before .before .before .before .before .args .place .i) (c .before .before .before .before .before .before .args .place .j) (c .before .before .before .before .before .before .args .place .x) y (held (c .before .before .before .before .before .before .args .work .now) (c .before .before .before .before .before .before .args .place .at - c .before .before .before .before .before .before .args .grid .size)) (sym (c .before .within .ensures) ∙ c .if2 .left)
+returns-4 c =
+    let start = c .before .before .before .before .before .before in
+    let a = start .args in
+    λ y h. bit-zero y ∙ bottom-heavy (a .rules .now) (a .loads .now) (a .bound) (a .place .i) (a .place .j) (a .place .x) y
+    (held (a .work .now) (a .place .at - a .grid .size)) (sym (c .before .within .ensures) ∙ c .if2 .left)
 
 pub bottom-spec : {M : Type 1} → statement M
 bottom-spec =

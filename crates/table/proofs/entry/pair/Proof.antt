@@ -13,16 +13,28 @@ use Rattle.table.proofs.entry.pair.Statement.{statement}
 use Rattle.table.proofs.entry.pair.Tie as tie
 
 returns : tie.Need-returns
-returns c = λ y h. bit-zero y ∙ no-top-pair (c .before .before .before .before .args .rules .now) (c .before .before .before .before .args .loads .now) (c .before .before .before .before .args .bound) (c .before .before .before .before .args .place .i) (c .before .before .before .before .args .place .j) (c .before .before .before .before .args .place .x) y (held (c .before .before .before .before .args .work .now) (c .before .before .before .before .args .place .at - (c .before .before .before .before .args .grid .stride + c .before .before .before .before .args .grid .size))) (c .if1 .taken)
+returns c =
+    let start = c .before .before .before .before in
+    let a = start .args in
+    λ y h. bit-zero y ∙ no-top-pair (a .rules .now) (a .loads .now) (a .bound) (a .place .i) (a .place .j) (a .place .x) y
+    (held (a .work .now) (a .place .at - (a .grid .stride + a .grid .size))) (c .if1 .taken)
 
 returns-2 : tie.Need-returns-2
-returns-2 c = λ y h. bit-zero y ∙ no-bottom-pair (c .before .before .before .before .before .args .rules .now) (c .before .before .before .before .before .args .loads .now) (c .before .before .before .before .before .args .bound) (c .before .before .before .before .before .args .place .i) (c .before .before .before .before .before .args .place .j) (c .before .before .before .before .before .args .place .x) y (held (c .before .before .before .before .before .args .work .now) (c .before .before .before .before .before .args .place .at - (c .before .before .before .before .before .args .grid .stride + c .before .before .before .before .before .args .grid .size))) (c .if2 .taken)
+returns-2 c =
+    let start = c .before .before .before .before .before in
+    let a = start .args in
+    λ y h. bit-zero y ∙ no-bottom-pair (a .rules .now) (a .loads .now) (a .bound) (a .place .i) (a .place .j) (a .place .x) y
+    (held (a .work .now) (a .place .at - (a .grid .stride + a .grid .size))) (c .if2 .taken)
 
 add-if3 : tie.Need-add-if3
 add-if3 c = search needs
 
 returns-3 : tie.Need-returns-3
-returns-3 c = λ y h. bit-zero y ∙ pair-apart (c .before .before .before .before .before .before .args .rules .now) (c .before .before .before .before .before .before .args .loads .now) (c .before .before .before .before .before .before .args .bound) (c .before .before .before .before .before .before .args .place .i) (c .before .before .before .before .before .before .args .place .j) (c .before .before .before .before .before .before .args .place .x) y (held (c .before .before .before .before .before .before .args .work .now) (c .before .before .before .before .before .before .args .place .at - (c .before .before .before .before .before .before .args .grid .stride + c .before .before .before .before .before .before .args .grid .size))) (λ e. omega (arith, c .if3 .taken))
+returns-3 c =
+    let start = c .before .before .before .before .before .before in
+    let a = start .args in
+    λ y h. bit-zero y ∙ pair-apart (a .rules .now) (a .loads .now) (a .bound) (a .place .i) (a .place .j) (a .place .x) y
+    (held (a .work .now) (a .place .at - (a .grid .stride + a .grid .size))) (λ e. omega (arith, c .if3 .taken))
 
 add-y : tie.Need-add-y
 add-y c = search needs
@@ -31,7 +43,11 @@ sub-y : tie.Need-sub-y
 sub-y c = search needs
 
 returns-4 : tie.Need-returns-4
-returns-4 c = λ y h. bit-zero y ∙ pair-apart (c .before .before .before .before .before .before .before .args .rules .now) (c .before .before .before .before .before .before .before .args .loads .now) (c .before .before .before .before .before .before .before .args .bound) (c .before .before .before .before .before .before .before .args .place .i) (c .before .before .before .before .before .before .before .args .place .j) (c .before .before .before .before .before .before .before .args .place .x) y (held (c .before .before .before .before .before .before .before .args .work .now) (c .before .before .before .before .before .before .before .args .place .at - (c .before .before .before .before .before .before .before .args .grid .stride + c .before .before .before .before .before .before .before .args .grid .size))) (λ e. omega (arith, c .if4 .taken))
+returns-4 c =
+    let start = c .before .before .before .before .before .before .before in
+    let a = start .args in
+    λ y h. bit-zero y ∙ pair-apart (a .rules .now) (a .loads .now) (a .bound) (a .place .i) (a .place .j) (a .place .x) y
+    (held (a .work .now) (a .place .at - (a .grid .stride + a .grid .size))) (λ e. omega (arith, c .if4 .taken))
 
 within-requires : tie.Need-within-requires
 within-requires c κs = search needs
@@ -43,16 +59,28 @@ bit-requires : tie.Need-bit-requires
 bit-requires c κs = search needs
 
 add-rows : tie.Need-add-rows
-add-rows c = omega (arith, c .before .before .before .before .before .before .before .before .before .before .before .before .before .pre .1, c .before .before .before .before .before .before .before .before .before .before .before .before .before .pre .1 .diagonal (omega (arith, c .before .before .before .before .before .before .before .before .before .if1 .left)) (omega (arith, c .before .before .before .before .before .before .before .before .if2 .left)))
+add-rows c =
+    let at-if2 = c .before .before .before .before .before .before .before .before in
+    let at-if1 = at-if2 .before in
+    let start = at-if1 .before .before .before .before in
+    omega (arith, start .pre .1, start .pre .1 .diagonal (omega (arith, at-if1 .if1 .left)) (omega (arith, at-if2 .if2 .left)))
 
 sub-rows : tie.Need-sub-rows
-sub-rows c = c .before .before .before .before .before .before .before .before .before .before .before .before .before .before .pre .1 .diagonal (omega (arith, c .before .before .before .before .before .before .before .before .before .before .if1 .left)) (omega (arith, c .before .before .before .before .before .before .before .before .before .if2 .left))
+sub-rows c =
+    let at-if2 = c .before .before .before .before .before .before .before .before .before in
+    let at-if1 = at-if2 .before in
+    let start = at-if1 .before .before .before .before in
+    start .pre .1 .diagonal (omega (arith, at-if1 .if1 .left)) (omega (arith, at-if2 .if2 .left))
 
 range-requires : tie.Need-range-requires
 range-requires c κs = search needs
 
 rows-requires : tie.Need-rows-requires
-rows-requires c κs = omega (arith, c .before .before .before .before .before .before .before .before .before .before .before .before .before .before .before .pre .1, c .before .before .before .before .before .before .before .before .before .before .before .before .before .before .before .pre .1 .diagonal (omega (arith, c .before .before .before .before .before .before .before .before .before .before .before .if1 .left)) (omega (arith, c .before .before .before .before .before .before .before .before .before .before .if2 .left)))
+rows-requires c κs =
+    let at-if2 = c .before .before .before .before .before .before .before .before .before .before in
+    let at-if1 = at-if2 .before in
+    let start = at-if1 .before .before .before .before in
+    omega (arith, start .pre .1, start .pre .1 .diagonal (omega (arith, at-if1 .if1 .left)) (omega (arith, at-if2 .if2 .left)))
 
 single-requires : tie.Need-single-requires
 single-requires c κs = search needs
@@ -73,22 +101,51 @@ both-requires-2 : tie.Need-both-requires-2
 both-requires-2 c κs = search needs
 
 returns-5 : tie.Need-returns-5
-returns-5 c = λ y h.
+returns-5 c =
+    let at-steps = c .before .before .before in
+    let at-range2 = at-steps .before in
+    let at-single = at-range2 .before in
+    let at-rows = at-single .before in
+    let at-range = at-rows .before in
+    let at-if6 = at-range .before .before .before in
+    let at-bit = at-if6 .before in
+    let at-allowed = at-bit .before in
+    let at-if5 = at-allowed .before in
+    let at-within = at-if5 .before in
+    let at-if3 = at-within .before .before in
+    let at-if2 = at-if3 .before in
+    let at-if1 = at-if2 .before in
+    let start = at-if1 .before .before .before .before in
+    let a = start .args in
+    λ y h.
     c .both2 .ensures y
-    ∙ ap (λ (t : Bool). bitOf (c .before .before .before .before .before .single .result) y && t) (c .before .both .ensures y)
-    ∙ pair-found (c .before .before .before .before .before .before .before .before .before .before .before .before .before .before .before .before .before .before .before .before .before .before .args .rules .now) (c .before .before .before .before .before .before .before .before .before .before .before .before .before .before .before .before .before .before .before .before .before .before .args .loads .now) (c .before .before .before .before .before .before .before .before .before .before .before .before .before .before .before .before .before .before .before .before .before .before .args .bound) (c .before .before .before .before .before .before .before .before .before .before .before .before .before .before .before .before .before .before .before .before .before .before .args .place .i) (c .before .before .before .before .before .before .before .before .before .before .before .before .before .before .before .before .before .before .before .before .before .before .args .place .j) (c .before .before .before .before .before .before .before .before .before .before .before .before .before .before .before .before .before .before .before .before .before .before .args .place .x) y (held (c .before .before .before .before .before .before .before .before .before .before .before .before .before .before .before .before .before .before .before .before .before .before .args .work .now) (c .before .before .before .before .before .before .before .before .before .before .before .before .before .before .before .before .before .before .before .before .before .before .args .place .at - (c .before .before .before .before .before .before .before .before .before .before .before .before .before .before .before .before .before .before .before .before .before .before .args .grid .stride + c .before .before .before .before .before .before .before .before .before .before .before .before .before .before .before .before .before .before .before .before .before .before .args .grid .size))) (c .before .before .before .before .before .before .rows .result) _ _ _ (c .before .before .before .before .before .before .before .before .before .before .before .before .before .before .before .before .before .before .if1 .left) (c .before .before .before .before .before .before .before .before .before .before .before .before .before .before .before .before .before .if2 .left) (c .before .before .before .before .before .before .before .before .before .before .before .before .before .before .before .before .if3 .left)
-    (sym (c .before .before .before .before .before .before .before .before .before .before .before .before .before .before .within .ensures) ∙ c .before .before .before .before .before .before .before .before .before .before .before .before .before .if5 .taken)
-    (ap (λ (w : ℕ). bitOf w (c .before .before .before .before .before .before .before .before .before .before .before .before .before .before .before .before .before .before .before .before .before .before .args .place .x)) (sym (c .before .before .before .before .before .before .before .before .before .before .before .before .allowed .ensures)) ∙ sym (c .before .before .before .before .before .before .before .before .before .before .before .bit .ensures) ∙ c .before .before .before .before .before .before .before .before .before .before .if6 .taken)
-    (λ m. c .before .before .before .before .before .before .rows .ensures m ∙ ap (λ (w : ℕ). some (suc (c .before .before .before .before .before .before .before .before .before .before .before .before .before .before .before .before .before .before .before .before .before .before .args .place .x)) (λ (n : ℕ). bitOf w (c .before .before .before .before .before .before .before .before .before .before .before .before .before .before .before .before .before .before .before .before .before .before .args .place .x - n) && held (c .before .before .before .before .before .before .before .before .before .before .before .before .before .before .before .before .before .before .before .before .before .before .args .work .now) (c .before .before .before .before .before .before .before .before .before .before .before .before .before .before .before .before .before .before .before .before .before .before .args .place .at - (c .before .before .before .before .before .before .before .before .before .before .before .before .before .before .before .before .before .before .before .before .before .before .args .grid .stride + c .before .before .before .before .before .before .before .before .before .before .before .before .before .before .before .before .before .before .before .before .before .before .args .grid .size)) n m)) (c .before .before .before .before .before .before .before .range .ensures))
-    (c .before .before .before .before .before .single .ensures y h)
-    (c .before .before .before .steps .ensures y h ∙ ap (λ (w : ℕ). stepped (c .before .before .before .before .before .before .rows .result) w y) (c .before .before .before .before .range2 .ensures))
+    ∙ ap (λ (t : Bool). bitOf (at-single .single .result) y && t) (c .before .both .ensures y)
+    ∙ pair-found (a .rules .now) (a .loads .now) (a .bound) (a .place .i) (a .place .j) (a .place .x) y
+    (held (a .work .now) (a .place .at - (a .grid .stride + a .grid .size))) (at-rows .rows .result) _ _ _ (at-if1 .if1 .left)
+    (at-if2 .if2 .left) (at-if3 .if3 .left)
+    (sym (at-within .within .ensures) ∙ at-if5 .if5 .taken)
+    (ap (λ (w : ℕ). bitOf w (a .place .x)) (sym (at-allowed .allowed .ensures)) ∙ sym (at-bit .bit .ensures) ∙ at-if6 .if6 .taken)
+    (λ m. at-rows .rows .ensures m ∙ ap (λ (w : ℕ). some (suc (a .place .x))
+    (λ (n : ℕ). bitOf w (a .place .x - n) && held (a .work .now) (a .place .at - (a .grid .stride + a .grid .size)) n m))
+    (at-range .range .ensures))
+    (at-single .single .ensures y h)
+    (at-steps .steps .ensures y h ∙ ap (λ (w : ℕ). stepped (at-rows .rows .result) w y) (at-range2 .range2 .ensures))
     (ap (λ (w : ℕ). bitOf w y) (c .before .before .allowed2 .ensures))
 
 returns-6 : tie.Need-returns-6
-returns-6 c = λ y h. bit-zero y ∙ pair-barred (c .before .before .before .before .before .before .before .before .before .before .before .before .args .rules .now) (c .before .before .before .before .before .before .before .before .before .before .before .before .args .loads .now) (c .before .before .before .before .before .before .before .before .before .before .before .before .args .bound) (c .before .before .before .before .before .before .before .before .before .before .before .before .args .place .i) (c .before .before .before .before .before .before .before .before .before .before .before .before .args .place .j) (c .before .before .before .before .before .before .before .before .before .before .before .before .args .place .x) y (held (c .before .before .before .before .before .before .before .before .before .before .before .before .args .work .now) (c .before .before .before .before .before .before .before .before .before .before .before .before .args .place .at - (c .before .before .before .before .before .before .before .before .before .before .before .before .args .grid .stride + c .before .before .before .before .before .before .before .before .before .before .before .before .args .grid .size))) (ap (λ (w : ℕ). bitOf w (c .before .before .before .before .before .before .before .before .before .before .before .before .args .place .x)) (sym (c .before .before .allowed .ensures)) ∙ sym (c .before .bit .ensures) ∙ c .if6 .left)
+returns-6 c =
+    let start = c .before .before .before .before .before .before .before .before .before .before .before .before in
+    let a = start .args in
+    λ y h. bit-zero y ∙ pair-barred (a .rules .now) (a .loads .now) (a .bound) (a .place .i) (a .place .j) (a .place .x) y
+    (held (a .work .now) (a .place .at - (a .grid .stride + a .grid .size)))
+    (ap (λ (w : ℕ). bitOf w (a .place .x)) (sym (c .before .before .allowed .ensures)) ∙ sym (c .before .bit .ensures) ∙ c .if6 .left)
 
 returns-7 : tie.Need-returns-7
-returns-7 c = λ y h. bit-zero y ∙ pair-heavy (c .before .before .before .before .before .before .before .before .before .args .rules .now) (c .before .before .before .before .before .before .before .before .before .args .loads .now) (c .before .before .before .before .before .before .before .before .before .args .bound) (c .before .before .before .before .before .before .before .before .before .args .place .i) (c .before .before .before .before .before .before .before .before .before .args .place .j) (c .before .before .before .before .before .before .before .before .before .args .place .x) y (held (c .before .before .before .before .before .before .before .before .before .args .work .now) (c .before .before .before .before .before .before .before .before .before .args .place .at - (c .before .before .before .before .before .before .before .before .before .args .grid .stride + c .before .before .before .before .before .before .before .before .before .args .grid .size))) (sym (c .before .within .ensures) ∙ c .if5 .left)
+returns-7 c =
+    let start = c .before .before .before .before .before .before .before .before .before in
+    let a = start .args in
+    λ y h. bit-zero y ∙ pair-heavy (a .rules .now) (a .loads .now) (a .bound) (a .place .i) (a .place .j) (a .place .x) y
+    (held (a .work .now) (a .place .at - (a .grid .stride + a .grid .size))) (sym (c .before .within .ensures) ∙ c .if5 .left)
 
 pub pair-spec : {M : Type 1} → statement M
 pair-spec =

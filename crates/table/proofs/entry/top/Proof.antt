@@ -13,13 +13,21 @@ use Rattle.table.proofs.entry.top.Statement.{statement}
 use Rattle.table.proofs.entry.top.Tie as tie
 
 returns : tie.Need-returns
-returns c = λ y h. bit-zero y ∙ no-top (c .before .before .before .before .args .rules .now) (c .before .before .before .before .args .loads .now) (c .before .before .before .before .args .bound) (c .before .before .before .before .args .place .i) (c .before .before .before .before .args .place .j) (c .before .before .before .before .args .place .x) y (held (c .before .before .before .before .args .work .now) (c .before .before .before .before .args .place .at - c .before .before .before .before .args .grid .stride)) (c .if1 .taken)
+returns c =
+    let start = c .before .before .before .before in
+    let a = start .args in
+    λ y h. bit-zero y ∙ no-top (a .rules .now) (a .loads .now) (a .bound) (a .place .i) (a .place .j) (a .place .x) y
+    (held (a .work .now) (a .place .at - a .grid .stride)) (c .if1 .taken)
 
 add-if2 : tie.Need-add-if2
 add-if2 c = search needs
 
 returns-2 : tie.Need-returns-2
-returns-2 c = λ y h. bit-zero y ∙ top-left (c .before .before .before .before .before .args .rules .now) (c .before .before .before .before .before .args .loads .now) (c .before .before .before .before .before .args .bound) (c .before .before .before .before .before .args .place .i) (c .before .before .before .before .before .args .place .j) (c .before .before .before .before .before .args .place .x) y (held (c .before .before .before .before .before .args .work .now) (c .before .before .before .before .before .args .place .at - c .before .before .before .before .before .args .grid .stride)) (c .if2 .taken)
+returns-2 c =
+    let start = c .before .before .before .before .before in
+    let a = start .args in
+    λ y h. bit-zero y ∙ top-left (a .rules .now) (a .loads .now) (a .bound) (a .place .i) (a .place .j) (a .place .x) y
+    (held (a .work .now) (a .place .at - a .grid .stride)) (c .if2 .taken)
 
 within-requires : tie.Need-within-requires
 within-requires c κs = search needs
@@ -31,13 +39,19 @@ bit-requires : tie.Need-bit-requires
 bit-requires c κs = search needs
 
 sub-rows : tie.Need-sub-rows
-sub-rows c = c .before .before .before .before .before .before .before .before .before .before .before .before .pre .1 .above (omega (arith, c .before .before .before .before .before .before .before .before .if1 .left))
+sub-rows c =
+    let at-if1 = c .before .before .before .before .before .before .before .before in
+    let start = at-if1 .before .before .before .before in
+    start .pre .1 .above (omega (arith, at-if1 .if1 .left))
 
 range-requires : tie.Need-range-requires
 range-requires c κs = search needs
 
 rows-requires : tie.Need-rows-requires
-rows-requires c κs = omega (arith, c .before .before .before .before .before .before .before .before .before .before .before .before .before .pre .1, c .before .before .before .before .before .before .before .before .before .before .before .before .before .pre .1 .above (omega (arith, c .before .before .before .before .before .before .before .before .before .if1 .left)))
+rows-requires c κs =
+    let at-if1 = c .before .before .before .before .before .before .before .before .before in
+    let start = at-if1 .before .before .before .before in
+    omega (arith, start .pre .1, start .pre .1 .above (omega (arith, at-if1 .if1 .left)))
 
 add-below : tie.Need-add-below
 add-below c = search needs
@@ -52,22 +66,43 @@ both-requires : tie.Need-both-requires
 both-requires c κs = search needs
 
 returns-3 : tie.Need-returns-3
-returns-3 c = λ y h.
+returns-3 c =
+    let at-range = c .before .before .before in
+    let at-if4 = at-range .before .before .before in
+    let at-bit = at-if4 .before in
+    let at-allowed = at-bit .before in
+    let at-if3 = at-allowed .before in
+    let at-within = at-if3 .before in
+    let at-if2 = at-within .before in
+    let at-if1 = at-if2 .before in
+    let start = at-if1 .before .before .before .before in
+    let a = start .args in
+    λ y h.
     c .both .ensures y
-    ∙ top-found (c .before .before .before .before .before .before .before .before .before .before .before .before .before .before .before .before .args .rules .now) (c .before .before .before .before .before .before .before .before .before .before .before .before .before .before .before .before .args .loads .now) (c .before .before .before .before .before .before .before .before .before .before .before .before .before .before .before .before .args .bound) (c .before .before .before .before .before .before .before .before .before .before .before .before .before .before .before .before .args .place .i) (c .before .before .before .before .before .before .before .before .before .before .before .before .before .before .before .before .args .place .j) (c .before .before .before .before .before .before .before .before .before .before .before .before .before .before .before .before .args .place .x) y (held (c .before .before .before .before .before .before .before .before .before .before .before .before .before .before .before .before .args .work .now) (c .before .before .before .before .before .before .before .before .before .before .before .before .before .before .before .before .args .place .at - c .before .before .before .before .before .before .before .before .before .before .before .before .before .before .before .before .args .grid .stride)) _ _ (c .before .before .before .before .before .before .before .before .before .before .before .before .if1 .left) (c .before .before .before .before .before .before .before .before .before .before .before .if2 .left)
-    (sym (c .before .before .before .before .before .before .before .before .before .before .within .ensures) ∙ c .before .before .before .before .before .before .before .before .before .if3 .taken)
-    (ap (λ (w : ℕ). bitOf w (c .before .before .before .before .before .before .before .before .before .before .before .before .before .before .before .before .args .place .x)) (sym (c .before .before .before .before .before .before .before .before .allowed .ensures)) ∙ sym (c .before .before .before .before .before .before .before .bit .ensures) ∙ c .before .before .before .before .before .before .if4 .taken)
-    (c .before .before .rows .ensures y ∙ ap (λ (w : ℕ). some (suc (c .before .before .before .before .before .before .before .before .before .before .before .before .before .before .before .before .args .place .x)) (λ (n : ℕ). bitOf w (c .before .before .before .before .before .before .before .before .before .before .before .before .before .before .before .before .args .place .x - n) && held (c .before .before .before .before .before .before .before .before .before .before .before .before .before .before .before .before .args .work .now) (c .before .before .before .before .before .before .before .before .before .before .before .before .before .before .before .before .args .place .at - c .before .before .before .before .before .before .before .before .before .before .before .before .before .before .before .before .args .grid .stride) n y)) (c .before .before .before .range .ensures))
+    ∙ top-found (a .rules .now) (a .loads .now) (a .bound) (a .place .i) (a .place .j) (a .place .x) y
+    (held (a .work .now) (a .place .at - a .grid .stride)) _ _ (at-if1 .if1 .left) (at-if2 .if2 .left)
+    (sym (at-within .within .ensures) ∙ at-if3 .if3 .taken)
+    (ap (λ (w : ℕ). bitOf w (a .place .x)) (sym (at-allowed .allowed .ensures)) ∙ sym (at-bit .bit .ensures) ∙ at-if4 .if4 .taken)
+    (c .before .before .rows .ensures y ∙ ap (λ (w : ℕ). some (suc (a .place .x))
+    (λ (n : ℕ). bitOf w (a .place .x - n) && held (a .work .now) (a .place .at - a .grid .stride) n y)) (at-range .range .ensures))
     (c .before .below .ensures y h)
 
 returns-4 : tie.Need-returns-4
-returns-4 c = λ y h.
+returns-4 c =
+    let start = c .before .before .before .before .before .before .before .before .before .before in
+    let a = start .args in
+    λ y h.
     bit-zero y
-    ∙ top-barred (c .before .before .before .before .before .before .before .before .before .before .args .rules .now) (c .before .before .before .before .before .before .before .before .before .before .args .loads .now) (c .before .before .before .before .before .before .before .before .before .before .args .bound) (c .before .before .before .before .before .before .before .before .before .before .args .place .i) (c .before .before .before .before .before .before .before .before .before .before .args .place .j) (c .before .before .before .before .before .before .before .before .before .before .args .place .x) y (held (c .before .before .before .before .before .before .before .before .before .before .args .work .now) (c .before .before .before .before .before .before .before .before .before .before .args .place .at - c .before .before .before .before .before .before .before .before .before .before .args .grid .stride))
-    (ap (λ (w : ℕ). bitOf w (c .before .before .before .before .before .before .before .before .before .before .args .place .x)) (sym (c .before .before .allowed .ensures)) ∙ sym (c .before .bit .ensures) ∙ c .if4 .left)
+    ∙ top-barred (a .rules .now) (a .loads .now) (a .bound) (a .place .i) (a .place .j) (a .place .x) y
+    (held (a .work .now) (a .place .at - a .grid .stride))
+    (ap (λ (w : ℕ). bitOf w (a .place .x)) (sym (c .before .before .allowed .ensures)) ∙ sym (c .before .bit .ensures) ∙ c .if4 .left)
 
 returns-5 : tie.Need-returns-5
-returns-5 c = λ y h. bit-zero y ∙ top-heavy (c .before .before .before .before .before .before .before .args .rules .now) (c .before .before .before .before .before .before .before .args .loads .now) (c .before .before .before .before .before .before .before .args .bound) (c .before .before .before .before .before .before .before .args .place .i) (c .before .before .before .before .before .before .before .args .place .j) (c .before .before .before .before .before .before .before .args .place .x) y (held (c .before .before .before .before .before .before .before .args .work .now) (c .before .before .before .before .before .before .before .args .place .at - c .before .before .before .before .before .before .before .args .grid .stride)) (sym (c .before .within .ensures) ∙ c .if3 .left)
+returns-5 c =
+    let start = c .before .before .before .before .before .before .before in
+    let a = start .args in
+    λ y h. bit-zero y ∙ top-heavy (a .rules .now) (a .loads .now) (a .bound) (a .place .i) (a .place .j) (a .place .x) y
+    (held (a .work .now) (a .place .at - a .grid .stride)) (sym (c .before .within .ensures) ∙ c .if3 .left)
 
 pub top-spec : {M : Type 1} → statement M
 top-spec =

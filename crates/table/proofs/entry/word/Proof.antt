@@ -30,12 +30,17 @@ either-requires-3 c κs = search needs
 
 returns : tie.Need-returns
 unfolding entry
-returns c = λ y h.
+returns c =
+    let at-pair = c .before .before .before in
+    let at-bottom = at-pair .before in
+    let at-top = at-bottom .before in
+    let at-start = at-top .before in
+    λ y h.
     let or : Bool → Bool → Bool = λ a b. a || b in
     c .either3 .ensures y
-    ∙ ap₂ or (c .before .before .before .before .before .before .start .ensures y h)
+    ∙ ap₂ or (at-start .start .ensures y h)
     (c .before .either2 .ensures y
-    ∙ ap₂ or (c .before .before .before .before .before .top .ensures y h) (c .before .before .either .ensures y ∙ ap₂ or (c .before .before .before .before .bottom .ensures y h) (c .before .before .before .pair .ensures y h)))
+    ∙ ap₂ or (at-top .top .ensures y h) (c .before .before .either .ensures y ∙ ap₂ or (at-bottom .bottom .ensures y h) (at-pair .pair .ensures y h)))
 
 pub word-spec : {M : Type 1} → statement M
 word-spec =

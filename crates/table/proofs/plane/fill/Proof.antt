@@ -18,22 +18,34 @@ abbrev μ-loop : tie.MeasureT-loop
 
 loop-holds : tie.Need-loop-holds Inv-loop μ-loop
 loop-holds c =
-    let a = c .before .before .before .args in
-    (omega arith, sym (zero-mul (a .grid .stride)), filled-none (a .rules .now) (a .loads .now) (a .bound) (a .grid) 0 0 _ _ (nothing-earlier (a .rules .now) (a .loads .now) (a .bound) (a .grid) _))
+    let start = c .before .before .before in
+    let a = start .args in (
+      omega arith,
+      sym (zero-mul (a .grid .stride)),
+      filled-none (a .rules .now) (a .loads .now) (a .bound) (a .grid) 0 0 _ _
+          (nothing-earlier (a .rules .now) (a .loads .now) (a .bound) (a .grid) _),
+    )
 
 fill-row-requires : tie.Need-fill-row-requires Inv-loop μ-loop
 fill-row-requires c κs =
+    let start = c .before .before .before .before .before .before in
+    let a = start .args in
     let l = c .before .before .loop in (
-      c .before .before .before .before .before .before .pre .0,
-      c .before .before .before .before .before .before .pre .1,
-      omega (arith, c .before .before .before .before .before .before .pre .2, c .before .loop-test .taken),
+      start .pre .0,
+      start .pre .1,
+      omega (arith, start .pre .2, c .before .loop-test .taken),
       l .inv .1,
-      omega (arith, row-in-table (c .before .before .before .before .before .before .args .grid) (l .i) (c .before .before .before .before .before .before .args .p) (c .before .loop-test .taken), l .inv .1, c .before .before .before .before .before .before .pre .3, l .inv .2 .kept),
+      omega (arith, row-in-table (a .grid) (l .i) (a .p) (c .before .loop-test .taken), l .inv .1, start .pre .3, l .inv .2 .kept),
       l .inv .2 .cells,
     )
 
 add-at : tie.Need-add-at Inv-loop μ-loop
-add-at c = let l = c .before .before .before .before .before .loop in omega (arith, row-in-table (c .before .before .before .before .before .before .before .before .before .args .grid) (l .i) (c .before .before .before .before .before .before .before .before .before .args .p) (c .before .before .before .before .loop-test .taken), l .inv .1, c .before .before .before .before .before .before .before .before .before .pre .3)
+add-at c =
+    let at-loop-test = c .before .before .before .before in
+    let at-loop = at-loop-test .before in
+    let start = at-loop .before .before .before .before in
+    let a = start .args in
+    let l = at-loop .loop in omega (arith, row-in-table (a .grid) (l .i) (a .p) (at-loop-test .loop-test .taken), l .inv .1, start .pre .3)
 
 add-i : tie.Need-add-i Inv-loop μ-loop
 add-i c = omega (arith, c .before .before .before .before .loop-test .taken, c .before .before .before .before .before .before .before .before .before .pre .2)
@@ -43,11 +55,15 @@ loop-less c = omega (arith, c .before .before .before .before .loop-test .taken)
 
 loop-again : tie.Need-loop-again Inv-loop μ-loop
 loop-again c =
-    let a = c .before .before .before .before .before .before .before .before .before .args in
-    let l = c .before .before .before .before .before .loop in (
-      omega (arith, c .before .before .before .before .loop-test .taken),
+    let at-loop-test = c .before .before .before .before in
+    let at-loop = at-loop-test .before in
+    let start = at-loop .before .before .before .before in
+    let a = start .args in
+    let l = at-loop .loop in (
+      omega (arith, at-loop-test .loop-test .taken),
       ap (λ (k : ℕ). k + a .grid .stride) (l .inv .1) ∙ row-next (a .grid) (l .i),
-      filled-then (a .rules .now) (a .loads .now) (a .bound) (a .grid) (l .i) 0 (l .i + 1) 0 (l .at) (l .at + a .grid .stride) (a .work .now) (l .work) _ (l .inv .2) (c .before .before .fill-row .ensures) (omega arith),
+      filled-then (a .rules .now) (a .loads .now) (a .bound) (a .grid) (l .i) 0 (l .i + 1) 0 (l .at) (l .at + a .grid .stride)
+          (a .work .now) (l .work) _ (l .inv .2) (c .before .before .fill-row .ensures) (omega arith),
     )
 
 same-length : tie.Need-same-length Inv-loop μ-loop

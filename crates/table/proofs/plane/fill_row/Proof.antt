@@ -17,37 +17,71 @@ abbrev μ-loop : tie.MeasureT-loop
 
 loop-holds : tie.Need-loop-holds Inv-loop μ-loop
 loop-holds c =
-    let a = c .before .before .before .args in
-    (omega arith, c .before .before .before .pre .3 ∙ row-start (a .grid) (a .i), filled-none (a .rules .now) (a .loads .now) (a .bound) (a .grid) (a .i) 0 _ _ (c .before .before .before .pre .5))
+    let start = c .before .before .before in
+    let a = start .args in (
+      omega arith,
+      start .pre .3 ∙ row-start (a .grid) (a .i),
+      filled-none (a .rules .now) (a .loads .now) (a .bound) (a .grid) (a .i) 0 _ _
+          (start .pre .5),
+    )
 
 fill-plane-requires : tie.Need-fill-plane-requires Inv-loop μ-loop
 fill-plane-requires c κs =
+    let start = c .before .before .before .before .before .before in
+    let a = start .args in
     let l = c .before .before .loop in (
-      c .before .before .before .before .before .before .pre .0,
-      c .before .before .before .before .before .before .pre .1,
-      c .before .before .before .before .before .before .pre .2,
+      start .pre .0,
+      start .pre .1,
+      start .pre .2,
       c .before .loop-test .taken,
       l .inv .1,
-      omega (arith, plane-in-row (c .before .before .before .before .before .before .args .grid) (c .before .before .before .before .before .before .args .i) (c .before .before .before .before .before .before .pre .1) (l .j) (c .before .loop-test .taken), l .inv .1, c .before .before .before .before .before .before .pre .3, c .before .before .before .before .before .before .pre .4, l .inv .2 .kept),
+      omega (
+        arith,
+        plane-in-row (a .grid) (a .i) (start .pre .1) (l .j)
+            (c .before .loop-test .taken),
+        l .inv .1,
+        start .pre .3,
+        start .pre .4,
+        l .inv .2 .kept,
+      ),
       l .inv .2 .cells,
     )
 
 add-here : tie.Need-add-here Inv-loop μ-loop
-add-here c = let l = c .before .before .before .before .before .loop in omega (arith, plane-in-row (c .before .before .before .before .before .before .before .before .before .args .grid) (c .before .before .before .before .before .before .before .before .before .args .i) (c .before .before .before .before .before .before .before .before .before .pre .1) (l .j) (c .before .before .before .before .loop-test .taken), l .inv .1, c .before .before .before .before .before .before .before .before .before .pre .3, c .before .before .before .before .before .before .before .before .before .pre .4)
+add-here c =
+    let at-loop-test = c .before .before .before .before in
+    let at-loop = at-loop-test .before in
+    let start = at-loop .before .before .before .before in
+    let a = start .args in
+    let l = at-loop .loop in omega (
+      arith,
+      plane-in-row (a .grid) (a .i) (start .pre .1) (l .j)
+          (at-loop-test .loop-test .taken),
+      l .inv .1,
+      start .pre .3,
+      start .pre .4,
+    )
 
 add-j : tie.Need-add-j Inv-loop μ-loop
-add-j c = omega (arith, c .before .before .before .before .loop-test .taken, c .before .before .before .before .before .before .before .before .before .pre .1 .across .1)
+add-j c =
+    let at-loop-test = c .before .before .before .before in
+    let start = at-loop-test .before .before .before .before .before in
+    omega (arith, at-loop-test .loop-test .taken, start .pre .1 .across .1)
 
 loop-less : tie.Need-loop-less Inv-loop μ-loop
 loop-less c = omega (arith, c .before .before .before .before .loop-test .taken)
 
 loop-again : tie.Need-loop-again Inv-loop μ-loop
 loop-again c =
-    let a = c .before .before .before .before .before .before .before .before .before .args in
-    let l = c .before .before .before .before .before .loop in (
-      omega (arith, c .before .before .before .before .loop-test .taken),
+    let at-loop-test = c .before .before .before .before in
+    let at-loop = at-loop-test .before in
+    let start = at-loop .before .before .before .before in
+    let a = start .args in
+    let l = at-loop .loop in (
+      omega (arith, at-loop-test .loop-test .taken),
       ap (λ (k : ℕ). k + a .grid .size) (l .inv .1) ∙ plane-next (a .grid) (a .i) (l .j),
-      filled-then (a .rules .now) (a .loads .now) (a .bound) (a .grid) (a .i) (l .j) (a .i) (l .j + 1) (l .here) (l .here + a .grid .size) (a .work .now) (l .work) _ (l .inv .2) (c .before .before .fill-plane .ensures) (omega arith),
+      filled-then (a .rules .now) (a .loads .now) (a .bound) (a .grid) (a .i) (l .j) (a .i) (l .j + 1) (l .here) (l .here + a .grid .size)
+          (a .work .now) (l .work) _ (l .inv .2) (c .before .before .fill-plane .ensures) (omega arith),
     )
 
 same-length : tie.Need-same-length Inv-loop μ-loop
@@ -55,12 +89,15 @@ same-length c = c .before .loop .inv .2 .kept
 
 returns : tie.Need-returns Inv-loop μ-loop
 returns c =
-    let a = c .before .before .before .before .before .args in
+    let start = c .before .before .before .before .before in
+    let a = start .args in
     let l = c .before .loop in
     let all : l .j ≡ a .grid .across = omega (arith, c .loop-test .left) in
     let end : l .here ≡ a .at + a .grid .stride
-    = l .inv .1 ∙ ap (λ (k : ℕ). baseOf (a .grid) (a .i) k) all ∙ row-end (a .grid) (a .i) (c .before .before .before .before .before .pre .1) ∙ ap (λ (k : ℕ). k + a .grid .stride) (sym (c .before .before .before .before .before .pre .3)) in
-    row-filled (a .rules .now) (a .loads .now) (a .bound) (a .grid) (a .i) (a .at + a .grid .stride) (a .work .now) (l .work) (rw (all, end) at (l .inv .2))
+    = l .inv .1 ∙ ap (λ (k : ℕ). baseOf (a .grid) (a .i) k) all ∙ row-end (a .grid) (a .i) (start .pre .1) ∙ ap
+    (λ (k : ℕ). k + a .grid .stride) (sym (start .pre .3)) in
+    row-filled (a .rules .now) (a .loads .now) (a .bound) (a .grid) (a .i) (a .at + a .grid .stride) (a .work .now) (l .work)
+    (rw (all, end) at (l .inv .2))
 
 pub fill-row-spec : {M : Type 1} → statement M
 fill-row-spec =

@@ -16,7 +16,8 @@ use Rattle.table.proofs.query.meets.Tie as tie
 
 abbrev Inv-loop : tie.InvT-loop
 Inv-loop work base low high next by mask x₀ x =
-    (low ≤ x) × (x ≤ high + 1) × (some x (λ (m : ℕ). leb low m && (bitOf by (next - m) && inWord (λ (y : ℕ). held work base m y && bitOf mask y))) ≡ false)
+    (low ≤ x) × (x ≤ high + 1) × (some x
+    (λ (m : ℕ). leb low m && (bitOf by (next - m) && inWord (λ (y : ℕ). held work base m y && bitOf mask y))) ≡ false)
 
 abbrev μ-loop : tie.MeasureT-loop
 μ-loop work base low high next by mask x₀ x = high + 1 - x
@@ -45,10 +46,18 @@ both-requires c κs = search needs
 returns : tie.Need-returns Inv-loop μ-loop
 unfolding meeting
 returns c =
-    let a = c .before .before .before .before .before .before .before .before .args in
-    let l = c .before .before .before .before .before .before .loop in
-    row-meets (a .low) (a .high) (l .x) (λ (m : ℕ). bitOf (a .by) (a .next - m)) (λ (m y : ℕ). held (a .work .now) (a .base) m y && bitOf (a .mask) y) (l .inv .0) (c .before .before .before .before .before .loop-test .taken) (sym (c .before .before .before .before .bit .ensures) ∙ c .before .before .before .if1 .taken)
-    (c .before .both .result) (omega (arith, c .before .both .ok)) (c .if2 .taken) (λ y. c .before .both .ensures y ∙ ap (λ (w : ℕ). bitOf w y && bitOf (a .mask) y) (c .before .before .read-word .ensures))
+    let at-if1 = c .before .before .before in
+    let at-bit = at-if1 .before in
+    let at-loop-test = at-bit .before in
+    let at-loop = at-loop-test .before in
+    let start = at-loop .before .before in
+    let a = start .args in
+    let l = at-loop .loop in
+    row-meets (a .low) (a .high) (l .x) (λ (m : ℕ). bitOf (a .by) (a .next - m))
+    (λ (m y : ℕ). held (a .work .now) (a .base) m y && bitOf (a .mask) y) (l .inv .0) (at-loop-test .loop-test .taken)
+    (sym (at-bit .bit .ensures) ∙ at-if1 .if1 .taken)
+    (c .before .both .result) (omega (arith, c .before .both .ok)) (c .if2 .taken)
+    (λ y. c .before .both .ensures y ∙ ap (λ (w : ℕ). bitOf w y && bitOf (a .mask) y) (c .before .before .read-word .ensures))
 
 add-x : tie.Need-add-x Inv-loop μ-loop
 add-x c = omega arith
@@ -58,23 +67,31 @@ loop-less c = omega arith
 
 loop-again : tie.Need-loop-again Inv-loop μ-loop
 loop-again c =
-    let a = c .before .before .before .before .before .args in
-    let l = c .before .before .before .loop in (
+    let at-loop = c .before .before .before in
+    let start = at-loop .before .before in
+    let a = start .args in
+    let l = at-loop .loop in (
       omega arith,
       omega arith,
       ⊎-elim
-          (λ w. row-misses (a .low) (l .x) (λ (m : ℕ). bitOf (a .by) (a .next - m)) (λ (m y : ℕ). held (a .work .now) (a .base) m y && bitOf (a .mask) y) (w .2 .result) (w .3 .left) (λ y. w .2 .ensures y ∙ ap (λ (v : ℕ). bitOf v y && bitOf (a .mask) y) (w .1 .ensures)) (l .inv .2))
-          (λ w. row-skipped (a .low) (l .x) (λ (m : ℕ). bitOf (a .by) (a .next - m)) (λ (m y : ℕ). held (a .work .now) (a .base) m y && bitOf (a .mask) y) (sym (c .before .bit .ensures) ∙ w .left) (l .inv .2))
+          (λ w. row-misses (a .low) (l .x) (λ (m : ℕ). bitOf (a .by) (a .next - m))
+          (λ (m y : ℕ). held (a .work .now) (a .base) m y && bitOf (a .mask) y) (w .2 .result) (w .3 .left)
+          (λ y. w .2 .ensures y ∙ ap (λ (v : ℕ). bitOf v y && bitOf (a .mask) y) (w .1 .ensures)) (l .inv .2))
+          (λ w. row-skipped (a .low) (l .x) (λ (m : ℕ). bitOf (a .by) (a .next - m))
+          (λ (m y : ℕ). held (a .work .now) (a .base) m y && bitOf (a .mask) y) (sym (c .before .bit .ensures) ∙ w .left) (l .inv .2))
           (c .if1 .came),
     )
 
 returns-2 : tie.Need-returns-2 Inv-loop μ-loop
 unfolding meeting
 returns-2 c =
-    let a = c .before .before .before .args in
+    let start = c .before .before .before in
+    let a = start .args in
     let l = c .before .loop in
     let end : l .x ≡ suc (a .high) = omega arith in
-    none-meets (λ (m : ℕ). leb (a .low) m && (bitOf (a .by) (a .next - m) && inWord (λ (y : ℕ). held (a .work .now) (a .base) m y && bitOf (a .mask) y))) (l .x) (suc (a .high)) end (l .inv .2)
+    none-meets (λ (m : ℕ). leb (a .low) m &&
+    (bitOf (a .by) (a .next - m) && inWord (λ (y : ℕ). held (a .work .now) (a .base) m y && bitOf (a .mask) y))) (l .x) (suc (a .high)) end
+    (l .inv .2)
 
 pub meets-spec : {M : Type 1} → statement M
 meets-spec =
