@@ -51,23 +51,6 @@ fn answer(best: Best, pins: usize, cells: usize) -> Expected {
     }
 }
 
-fn number_of(r: Searched) -> u8 {
-    match r {
-        Searched::Found(_) => 0,
-        Searched::Sheet(why) => sheet::number_of(why),
-        Searched::Columns => 9,
-        Searched::Cells => 10,
-        Searched::NoAssignment => 11,
-    }
-}
-
-fn density_of(r: Searched) -> u64 {
-    match r {
-        Searched::Found(d) => d as u64,
-        _ => 0,
-    }
-}
-
 // The work cells that a search needs.
 fn cells_of(plan: Plan) -> usize
     ensures { λ r. ⌜ r ≤ 4294967296 ⌝ }
@@ -101,10 +84,10 @@ fn agrees(
     columns: &[u8],
     work: &[u16],
 ) -> bool {
-    if number_of(r) != expected.number {
+    if search::number_of(r) != expected.number {
         return false;
     }
-    if density_of(r) != expected.density {
+    if search::density_of(r) as u64 != expected.density {
         return false;
     }
     if !marks::bytes_left(columns, list, expected.written, lent.bytes) {
@@ -119,7 +102,12 @@ fn show(n: u64, lent: Lent, expected: Expected, r: Searched, list: &[u8], column
     io::write_all(1, b": exhaustive ");
     report::print_outcome(expected.number, expected.density, list, expected.written);
     io::write_all(1, b", search ");
-    report::print_outcome(number_of(r), density_of(r), columns, lent.bytes);
+    report::print_outcome(
+        search::number_of(r),
+        search::density_of(r) as u64,
+        columns,
+        lent.bytes,
+    );
     io::write_all(1, b"\n");
 }
 

@@ -32,10 +32,7 @@ pub fn searched(name: &[u8], answer: Searched, buffer: &Columns, pins: usize) {
     text(b": ");
     match answer {
         Searched::Found(density) => found(density, buffer, pins),
-        Searched::Sheet(why) => refused(number_of(why) as u64),
-        Searched::Columns => refused(9),
-        Searched::Cells => refused(10),
-        Searched::NoAssignment => refused(11),
+        _ => refused(search::number_of(answer) as u64),
     }
     text(b"\n");
 }
