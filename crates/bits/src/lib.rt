@@ -1,5 +1,5 @@
 // Sets of numbers below 64 as words, and words in 16-bit cells.
-ghost use Prim.Native.Nat.{ℕ, _+_, _-_, _≤_, _<_};
+ghost use Prim.Native.Nat.{ℕ, _+_, _-_, _*_, _≤_, _<_};
 ghost use mathlib.Core.Path.{_≡_};
 ghost use mathlib.Core.Bool.{_&&_, _||_};
 ghost use lib.Dec.{leb, ltb, eqb};
@@ -83,11 +83,14 @@ pub fn read_word(cells: &[u16], at: usize) -> u64
     requires { ⌜ at + 4 ≤ length (now cells) ⌝ }
     ensures { λ r. ⌜ r ≡ wordAt (now (cells .entry)) at ⌝ }
 {
-    let a = cells[at] as u64;
-    let b = cells[at + 1] as u64;
-    let c = cells[at + 2] as u64;
-    let d = cells[at + 3] as u64;
-    a + 65536 * (b + 65536 * (c + 65536 * d))
+    joined(cells[at], cells[at + 1], cells[at + 2], cells[at + 3])
+}
+
+// Four cells as one number, the lowest first.
+fn joined(a: u16, b: u16, c: u16, d: u16) -> u64
+    ensures { λ r. ⌜ r ≡ a + 65536 * (b + 65536 * (c + 65536 * d)) ⌝ }
+{
+    a as u64 + 65536 * (b as u64 + 65536 * (c as u64 + 65536 * d as u64))
 }
 
 // Puts a word into the four cells from `at` on.
