@@ -2,7 +2,7 @@
 -- Assumes nothing.
 use Prim.Native.Nat.{ℕ, zero, suc, _+_, _-_, _*_, _/_, _%_, _^_, _≤_, _<_}
 use mathlib.Core.Path.{_≡_, refl, sym, _∙_, ap, ap₂}
-use mathlib.Core.Bool.{Bool, true, false, _&&_, _||_, true≢false}
+use mathlib.Core.Bool.{Bool, true, false, _&&_, _||_, true≢false, and-false, or-true}
 use mathlib.Core.Logic.{_⊎_, inl, inr}
 use native.Mathlib.Omega.{arith}
 use native.Mathlib.Nat.{div-eq-of-lt, div-one, lt-of-lt-of-le, mul-assoc}
@@ -152,10 +152,6 @@ some-cong (suc n) f g h = ap₂ (λ (a b : Bool). a || b) (h n (omega arith)) (s
 pub some-from : (n : ℕ) (f : ℕ → Bool) (k : ℕ) → k < n → f k ≡ true → some n f ≡ true
 some-from (suc n) f k h e = by-test (λ l. some-from n f k l e) (eqb k n) refl
   where
-    or-true : (a : Bool) → (a || true) ≡ true
-    or-true true = refl
-    or-true false = refl
-
     by-test : (k < n → some n f ≡ true) → (b : Bool) → eqb k n ≡ b → (f n || some n f) ≡ true
     by-test rest true t = rw (ap f (sym (eqb-true k n t)) ∙ e)
     by-test rest false t = rw (rest (omega (arith, eqb-false k n t))) (or-true (f n))
@@ -190,14 +186,6 @@ module _ (n : ℕ) (a b : ℕ → Bool) where
 some-moved : (n : ℕ) (f g : ℕ → Bool) → g 0 ≡ false → ((k : ℕ) → k < n → g (suc k) ≡ f k) → some (suc n) g ≡ some n f
 some-moved zero f g z h = rw z
 some-moved (suc n) f g z h = ap₂ (λ (a b : Bool). a || b) (h n (omega arith)) (some-moved n f g z (λ k l. h k (omega arith)))
-
-pub or-false : (a : Bool) → (a || false) ≡ a
-or-false true = refl
-or-false false = refl
-
-pub and-false : (a : Bool) → (a && false) ≡ false
-and-false true = refl
-and-false false = refl
 
 -- the steps by the lowest bit, and those by the rest from the set moved up by one
 pub stepped-more :

@@ -1,4 +1,5 @@
--- Demand 3 of the best assignment: a sheet loosened keeps existence and does not raise the least density, and a sheet lengthened has the same one.
+-- Demand 3 of the best assignment: a sheet loosened keeps existence and does not raise the least density, and a sheet lengthened has
+-- the same one.
 -- Assumes nothing.
 use Prim.Native.Nat.{ℕ, _+_, _-_, _≤_}
 use mathlib.Core.Path.{_≡_, refl, sym, ap, _∙_}

@@ -6,17 +6,13 @@ use mathlib.Core.List.{List, [], _∷_, _++_}
 use mathlib.Core.Bool.{Bool, true, false, not, cond, _&&_, _||_, and-false, and-true, or-assoc, or-true, or-false}
 use native.Mathlib.Omega.{arith}
 use native.Mathlib.Nat.{zero-add, zero-max}
-use lib.ListN.{take-append-drop}
 use lib.Dec.{leb, ltb, eqb}
 use borrow.Author.Tests.{leb-true, leb-false, le-leb, lt-leb, ltb-true, ltb-false, lt-ltb, le-ltb, eq-eqb, ne-eqb}
-use Rattle.channel.specs.Sheet.{Terminal, Sheet, Sound}
-use Rattle.channel.specs.Assignment.{topColumns, bottomColumns, assignment?}
-use Rattle.channel.specs.Density.{any, Pin, pins, somePin, crosses, distinct, netsOf, weight, weightOf, columnDensity, maximumTo, density}
+use Rattle.channel.specs.Sheet.{Terminal, Sheet}
+use Rattle.channel.specs.Density.{any, Pin, pins, crosses, distinct, netsOf, weight, weightOf, columnDensity, maximumTo, density}
 use Rattle.channel.specs.Cut.{nets}
 use Rattle.channel.specs.Spans.{netColumns, endFrom, leftmost, rightmost, Below, spans, sumLast}
-use Rattle.channel.proofs.Columns.{Rises, rises-bound}
-use Rattle.channel.proofs.Assignments.{fits-rises}
-use Rattle.channel.proofs.Crossings.{somePin-columns, crossed, crosses-columns, no-pin}
+use Rattle.channel.proofs.Crossings.{crossed, crosses-columns, no-pin}
 
 -- one pick after the other over a list of columns
 abbrev pickFrom : (ℕ → ℕ → ℕ) → ℕ → List ℕ → ℕ
@@ -118,18 +114,6 @@ net-ends ps n k ks e h =
     let first : min 255 k ≡ k = omega arith in
     (rw (end-columns min 255 n ps, e, first), rw (end-columns max 0 n ps, e, zero-max))
 
--- so a net with a pin has one at or left of c exactly if its leftmost is there, and one at or right of c if its rightmost is
-pub ends-reach : (ps : List Pin) (n : ℕ) → Below 255 (netColumns n ps) → (netColumns n ps ≡ [] → ⊥) → (c : ℕ)
-    → (leb (leftmost n ps) c ≡ somePin (λ (k : ℕ). leb k c) n ps) × (leb c (rightmost n ps) ≡ somePin (λ (k : ℕ). leb c k) n ps)
-ends-reach ps n h some c = rw (somePin-columns (λ (k : ℕ). leb k c) n ps, somePin-columns (λ (k : ℕ). leb c k) n ps) (go (netColumns n ps) refl h)
-  where
-    go : (ks : List ℕ) → netColumns n ps ≡ ks → Below 255 ks
-        → (leb (leftmost n ps) c ≡ any (λ (k : ℕ). leb k c) ks) × (leb c (rightmost n ps) ≡ any (λ (k : ℕ). leb c k) ks)
-    go [] e b = absurd (some e)
-    go (k ∷ ks) e b =
-        let (l, r) = net-ends ps n k ks e (b .0) in
-        rw (l, r) (pick-any min (λ (k : ℕ). leb k c) (leb-min c) k ks, pick-any max (λ (k : ℕ). leb c k) (leb-max c) k ks)
-
 -- what they are for a net with no pin
 pub no-pin-ends : (ps : List Pin) (n : ℕ) → netColumns n ps ≡ [] → (leftmost n ps ≡ 255) × (rightmost n ps ≡ 0)
 unfolding leftmost rightmost
@@ -153,24 +137,6 @@ below-pins b n (t ∷ ts) (c ∷ cs) h = go (eqb (t .net) n) (below-pins b n ts 
     go : (x : Bool) → Below b (netColumns n (pins ts cs)) → Below b (cond x (c ∷ netColumns n (pins ts cs)) (netColumns n (pins ts cs)))
     go true r = (h .0, r)
     go false r = r
-
--- no column of a rising list is above where it may end
-rises-below : (b : ℕ) (cs : List ℕ) (l d : ℕ) → Rises b cs l → l ≤ d → Below d cs
-rises-below b [] l d h k = tt
-rises-below b (c ∷ cs) l d h k = (omega (arith, rises-bound c cs l (h .1)), rises-below c cs l d (h .1) k)
-
--- nor are those of two such lists
-below-append : (b : ℕ) (xs ys : List ℕ) → Below b xs → Below b ys → Below b (xs ++ ys)
-below-append b [] ys h k = k
-below-append b (x ∷ xs) ys h k = (h .0, below-append b xs ys (h .1) k)
-
--- so the columns of an assignment are not above the channel's length
-pub assignment-below : (s : Sheet) → Sound s → (cs : List ℕ) → assignment? s cs ≡ true → (d : ℕ) → s .columns ≤ d → Below d cs
-unfolding assignment? topColumns bottomColumns
-assignment-below s sound cs h d k =
-    let (t, b) = fits-rises s sound (topColumns s cs) (bottomColumns s cs) h in
-    let both = below-append d (topColumns s cs) (bottomColumns s cs) (rises-below 0 (topColumns s cs) (s .columns) d t k) (rises-below 0 (bottomColumns s cs) (s .columns) d b k) in
-    rw take-append-drop at both
 
 -- "Each net counts once in a column, however many pins it has": to count each net of a list once is to count it where it occurs last
 pub weight-last : (f : ℕ → Bool) (ns : List ℕ) → weightOf f (distinct ns) ≡ sumLast f ns

@@ -11,7 +11,8 @@ use lib.Dec.{leb, eqb}
 pub data Side : Type 0 where
   top bottom : Side
 
--- "Record": a pin to be placed, with its net, the range of its distance from the one before it, and its allowed set, in which bit 0 is column 1
+-- "Record": a pin to be placed, with its net, the range of its distance from the one before it, and its allowed set, in which bit 0 is
+-- column 1
 pub record Terminal : Type 0 where
   pub net : ℕ
   pub least : ℕ

@@ -2,7 +2,7 @@
 -- Assumes nothing.
 use Prim.Native.Nat.{ℕ, zero, suc, _+_, _-_, _≤_, _<_, max}
 use mathlib.Core.Path.{_≡_, refl, sym, _∙_, ap}
-use mathlib.Core.List.{List, [], _∷_, _++_, append-nil}
+use mathlib.Core.List.{List, [], _∷_, _++_, append-nil, map-append}
 use mathlib.Core.Bool.{Bool, true, false, cond, _&&_, _||_}
 use native.Mathlib.Omega.{arith}
 use native.Mathlib.Numerals.{add-one}
@@ -181,10 +181,6 @@ module _ (part ns : List ℕ) (i : ℕ) (so-far : take i ns ≡ take i (nets (te
   nets-all same h = sym (take-all i ns h) ∙ so-far ∙ take-all i (nets (terminalsIn part)) (rw length-map (omega arith))
 
 -- the nets of two lists of terminals, one behind the other
-nets-append : (ts us : List Terminal) → nets (ts ++ us) ≡ nets ts ++ nets us
-nets-append [] us = refl
-nets-append (t ∷ ts) us = ap (λ (ns : List ℕ). t .net ∷ ns) (nets-append ts us)
-
 pub length-nets : (ts us : List Terminal) → length (nets (ts ++ us)) ≡ length ts + length us
 length-nets ts us = length-map (ts ++ us) (λ (t : Terminal). t .net) ∙ length-append ts us
 
@@ -197,4 +193,4 @@ nets-both ts us xs first second p size e g =
     let ys : List ℕ = first ++ drop p xs in
     let fills : length first ≡ p = ap length e ∙ length-map ts (λ (t : Terminal). t .net) ∙ sym size in
     let none : length (drop p ys) ≤ length ys - p = rw length-drop (omega arith) in
-    rw (take-at first (drop p xs) p fills, drop-of-length-le (drop p ys) none, append-nil, e, g, nets-append)
+    rw (take-at first (drop p xs) p fills, drop-of-length-le (drop p ys) none, append-nil, e, g, map-append)

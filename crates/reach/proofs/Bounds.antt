@@ -3,7 +3,7 @@
 use Prim.Native.Nat.{ℕ, suc, _+_, _≤_}
 use native.Mathlib.Nat.{le-trans}
 use native.Mathlib.Omega.{arith}
-use mathlib.Core.Path.{_≡_, refl, sym, _∙_}
+use mathlib.Core.Path.{_≡_}
 use mathlib.Core.Bool.{Bool, true, false}
 use lib.ListN.{length}
 use Rattle.channel.specs.Sheet.{Sheet}
@@ -63,11 +63,3 @@ pub feasible-mono : (s : Sheet) (d e : ℕ) → d ≤ e → feasible s d ≡ tru
 feasible-mono s d e h f =
     let (u, v, hu, hv, r) = feasible-some s d f in
     feasible-from s e u v hu hv (reach-mono s d e h (length (s .top)) (length (s .bottom)) u v r)
-
--- and none of the smaller bounds is enough where one is not
-pub infeasible-below : (s : Sheet) (d e : ℕ) → e ≤ d → feasible s d ≡ false → feasible s e ≡ false
-infeasible-below s d e h f = go (feasible s e) refl
-  where
-    go : (t : Bool) → feasible s e ≡ t → t ≡ false
-    go true q = sym (feasible-mono s e d h q) ∙ f
-    go false q = refl

@@ -8,7 +8,7 @@ use native.Mathlib.Omega.{arith}
 use lib.Dec.{ltb}
 use lib.ListN.{length, length-append}
 use borrow.Author.Tests.{lt-ltb, le-ltb}
-use Rattle.report.specs.Text.{digits, numeral}
+use Rattle.report.specs.Text.{digits}
 
 pub digits-one : (k n : ℕ) → (k ≡ 0 → ⊥) → n < 10 → (48 + n) ∷ [] ≡ digits k n
 digits-one zero n h g = absurd (h refl)
@@ -27,7 +27,3 @@ digits-at-most (suc k) n = by-size (digits-at-most k (n / 10)) (ltb n 10)
         → length (cond b ((48 + n) ∷ []) (digits k (n / 10) ++ ((48 + n % 10) ∷ []))) ≤ suc k
     by-size h true = omega arith
     by-size h false = rw (length-append (digits k (n / 10)) ((48 + n % 10) ∷ [])) (omega arith)
-
-pub numeral-at-most : (n : ℕ) → length (numeral n) ≤ 5
-unfolding numeral
-numeral-at-most n = digits-at-most 5 n

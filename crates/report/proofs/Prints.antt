@@ -3,30 +3,18 @@
 use Prim.Native.Nat.{ℕ, _+_, _≤_, _<_}
 use mathlib.Core.Path.{_≡_, refl, sym, _∙_, ap}
 use mathlib.Core.List.{List, _++_}
-use mathlib.Core.Bool.{Bool, true, false, cond}
 use native.Mathlib.Omega.{arith}
 use native.Mathlib.Nat.{zero-add}
-use lib.Dec.{ltb}
 use lib.ListN.{length, take, drop, length-append}
 use lib.Seq.{sets-eq}
-use borrow.Author.Tests.{lt-ltb, le-ltb, ltb-false}
+use borrow.Author.Tests.{lt-ltb, le-ltb}
 use Rattle.channel.specs.Sheet.{Sheet}
-use Rattle.channel.specs.Best.{Found, best}
-use Rattle.channel.specs.Best.Found.{none, found}
-use Rattle.sheet.specs.declared.Checked.{Checked}
-use Rattle.sheet.specs.declared.Checked.the-variants as checked
-use Rattle.sheet.specs.declared.Refusal.{Refusal}
-use Rattle.sheet.specs.declared.Refusal.the-variants as refusals
-use Rattle.sheet.specs.Check.{checkOf}
-use Rattle.sheet.specs.Read.{readAs, read, sheetOf}
-use Rattle.sheet.specs.Read.Read.{sound}
-use Rattle.sheet.specs.Refusals as sheet
+use Rattle.sheet.specs.Read.{sheetOf}
 use Rattle.sheet.specs.Parts.{shapeOf}
 use Rattle.search.specs.declared.Searched.{Searched}
 use Rattle.search.specs.declared.Searched.the-variants as searched
-use Rattle.search.specs.Answer.{pinsNeeded, cellsNeeded, answerAs, answerIn, answerIf, searchedOf, numberOf, densityOf, Searches}
-use Rattle.search.specs.Pair.{LongEnough}
-use Rattle.search.proofs.TwoSearches.{columns-found}
+use Rattle.search.specs.Answer.{numberOf, densityOf, Searches}
+use Rattle.search.proofs.Found.{columns-found, Finds, finds, zero-found}
 use Rattle.report.specs.Text.{lines}
 use Rattle.report.specs.Printed.{refusal, headed, result, answered, searchText, printed, Prints}
 use Rattle.report.specs.Writing.{Wrote, walkOf}
@@ -52,54 +40,7 @@ pub too-long : (input : List ℕ) → 1548 < length input → refusal 15 ≡ pri
 unfolding printed
 too-long input h = rw (lt-ltb _ _ h)
 
--- a search that found an assignment: the sheet is sound, the buffers are long enough, and the assignment is the best
-module _ (b : List ℕ) (k m d : ℕ) where
-  pub record Finds : Type 0 where
-    pub long : LongEnough b (sheetOf b) k m
-    pub columns : List ℕ
-    pub best : best (sheetOf b) ≡ found d columns
-
-  by-best :
-      LongEnough b (sheetOf b) k m → (f : Found) → best (sheetOf b) ≡ f → answerAs f ≡ searched.Found d → Finds
-  by-best long none e q = let z : _≡_ {A = ℕ} 0 1 = cc in absurd (omega arith)
-  by-best long (found j cs) e q =
-      let z : j ≡ d = cc in record { long = long; columns = cs; best = e ∙ ap (λ (i : ℕ). found i cs) z }
-
-  by-room :
-      read b ≡ sound (sheetOf b) → (few less : Bool) → ltb k (pinsNeeded (sheetOf b)) ≡ few → ltb m (cellsNeeded (sheetOf b)) ≡ less
-      → cond few searched.Columns (cond less searched.Cells (answerAs (best (sheetOf b)))) ≡ searched.Found d → Finds
-  by-room reads true less e f q = let z : _≡_ {A = ℕ} 0 1 = cc in absurd (omega arith)
-  by-room reads false true e f q = let z : _≡_ {A = ℕ} 0 1 = cc in absurd (omega arith)
-  by-room reads false false e f q =
-      by-best (record { reads = reads; pins = ltb-false _ _ e; cells = ltb-false _ _ f }) (best (sheetOf b)) refl q
-
-  by-check : (r : Checked) → checkOf b ≡ r → answerIf r (sheetOf b) k m ≡ searched.Found d → Finds
-  unfolding answerIn read
-  by-check checked.Sound e q = by-room (ap (readAs (sheetOf b)) e) _ _ refl refl q
-  by-check (checked.Refused why) e q = let z : _≡_ {A = ℕ} 0 1 = cc in absurd (omega arith)
-
-  finds : searchedOf b k m ≡ searched.Found d → Finds
-  unfolding searchedOf
-  finds = by-check (checkOf b) refl
-
--- an answer with the number 0 is a density; one with another number has the text of a refusal
-sheet-number : (why : Refusal) → sheet.numberOf why ≡ 0 → ⊥
-sheet-number refusals.Short e = omega arith
-sheet-number refusals.Mark e = omega arith
-sheet-number refusals.Length e = omega arith
-sheet-number refusals.Count e = omega arith
-sheet-number refusals.Layout e = omega arith
-sheet-number refusals.Net e = omega arith
-sheet-number refusals.Distance e = omega arith
-sheet-number refusals.Beyond e = omega arith
-
-zero-found : (r : Searched) → numberOf r ≡ 0 → r ≡ searched.Found (densityOf r)
-zero-found (searched.Found d) e = refl
-zero-found (searched.Sheet why) e = absurd (sheet-number why e)
-zero-found searched.Columns e = absurd (omega arith)
-zero-found searched.Cells e = absurd (omega arith)
-zero-found searched.NoAssignment e = absurd (omega arith)
-
+-- an answer with another number than 0 has the text of a refusal
 other-refused : (r : Searched) (s : Sheet) → (numberOf r ≡ 0 → ⊥) → refusal (numberOf r) ≡ answered r s
 other-refused (searched.Found d) s h = absurd (h refl)
 other-refused (searched.Sheet why) s h = refl

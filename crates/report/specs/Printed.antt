@@ -14,15 +14,15 @@ use Rattle.sheet.specs.Walk.{walk}
 use Rattle.search.specs.declared.Searched.{Searched}
 use Rattle.search.specs.declared.Searched.the-variants as searched
 use Rattle.search.specs.Answer.{searchedOf, numberOf}
-use Rattle.report.specs.Text.{field, newline, density, refused, lines}
+use Rattle.report.specs.Text.{field, newline, densityName, refusedName, lines}
 
 -- "the single line `refused N`"
 abbrev pub refusal : ℕ → List ℕ
-refusal n = field refused n ++ newline
+refusal n = field refusedName n ++ newline
 
 -- the density, then a line for each terminal, top then bottom
 abbrev pub headed : ℕ → List ℕ → List ℕ
-headed d rest = field density d ++ (newline ++ rest)
+headed d rest = field densityName d ++ (newline ++ rest)
 
 abbrev pub result : Sheet → Found → List ℕ
 result s none = refusal 11

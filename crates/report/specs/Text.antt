@@ -24,21 +24,21 @@ newline = 10 ∷ []
 abbrev pub field : List ℕ → ℕ → List ℕ
 field name n = name ++ numeral n
 
--- the names: a space, " net ", " col ", "density ", "refused "
-abbrev pub space : List ℕ
-space = 32 ∷ []
+-- the names: " ", " net ", " col ", "density ", "refused "
+abbrev pub spaceName : List ℕ
+spaceName = 32 ∷ []
 
-abbrev pub net : List ℕ
-net = 32 ∷ 110 ∷ 101 ∷ 116 ∷ 32 ∷ []
+abbrev pub netName : List ℕ
+netName = 32 ∷ 110 ∷ 101 ∷ 116 ∷ 32 ∷ []
 
-abbrev pub col : List ℕ
-col = 32 ∷ 99 ∷ 111 ∷ 108 ∷ 32 ∷ []
+abbrev pub colName : List ℕ
+colName = 32 ∷ 99 ∷ 111 ∷ 108 ∷ 32 ∷ []
 
-abbrev pub density : List ℕ
-density = 100 ∷ 101 ∷ 110 ∷ 115 ∷ 105 ∷ 116 ∷ 121 ∷ 32 ∷ []
+abbrev pub densityName : List ℕ
+densityName = 100 ∷ 101 ∷ 110 ∷ 115 ∷ 105 ∷ 116 ∷ 121 ∷ 32 ∷ []
 
-abbrev pub refused : List ℕ
-refused = 114 ∷ 101 ∷ 102 ∷ 117 ∷ 115 ∷ 101 ∷ 100 ∷ 32 ∷ []
+abbrev pub refusedName : List ℕ
+refusedName = 114 ∷ 101 ∷ 102 ∷ 117 ∷ 115 ∷ 101 ∷ 100 ∷ 32 ∷ []
 
 -- the letters T and B
 abbrev pub letterOf : Side → ℕ
@@ -47,7 +47,7 @@ letterOf Bottom = 66
 
 -- "side, place in that side's order from 1, net, column"
 unfoldable pub line : Visit → ℕ → List ℕ
-line v c = letterOf (v .side) ∷ (field space (v .place) ++ (field net (v .terminal .net) ++ (field col c ++ newline)))
+line v c = letterOf (v .side) ∷ (field spaceName (v .place) ++ (field netName (v .terminal .net) ++ (field colName c ++ newline)))
 
 -- a line for each terminal and its column
 abbrev pub lines : List Visit → List ℕ → List ℕ

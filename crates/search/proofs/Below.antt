@@ -7,7 +7,7 @@ use mathlib.Core.Bool.{Bool, true, false, _&&_, _||_, and-false}
 use native.Mathlib.Omega.{arith}
 use native.Mathlib.Nat.{zero-add, suc-add}
 use Rattle.bits.specs.Bits.{some}
-use Rattle.bits.proofs.Laws.{some-cong}
+use Rattle.bits.proofs.Laws.{some-cong, some-none}
 use Rattle.reach.specs.Reach.{anyBelow}
 
 -- the model's "some number below n" is the table's
@@ -15,11 +15,6 @@ pub any-some : (n : ℕ) (f : ℕ → Bool) → anyBelow n f ≡ some n f
 unfolding anyBelow
 any-some zero f = refl
 any-some (suc n) f = ap (λ (t : Bool). f n || t) (any-some n f)
-
--- no number meets it
-pub some-none : (n : ℕ) (f : ℕ → Bool) → ((k : ℕ) → k < n → f k ≡ false) → some n f ≡ false
-some-none zero f h = refl
-some-none (suc n) f h = rw (h n (omega arith)) (some-none n f (λ k l. h k (omega arith)))
 
 -- a part of the test that does not depend on the number
 pub some-and : (a : Bool) (n : ℕ) (f : ℕ → Bool) → (a && some n f) ≡ some n (λ (k : ℕ). a && f k)

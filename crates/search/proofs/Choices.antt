@@ -3,14 +3,14 @@
 use Prim.Native.Nat.{ℕ, zero, suc, _+_, _-_, _≤_, _<_, min}
 use mathlib.Core.Path.{_≡_, refl, sym, _∙_, ap}
 use mathlib.Core.List.{List}
-use mathlib.Core.Bool.{Bool, true, false, cond, _&&_, _||_, true≢false}
+use mathlib.Core.Bool.{Bool, true, false, cond, _&&_, _||_, true≢false, and-false}
 use native.Mathlib.Omega.{arith}
 use native.Mathlib.Nat.{le-refl}
 use lib.ListN.{length, set}
 use lib.Dec.{leb, ltb, eqb, leb·zero}
 use borrow.Author.Tests.{ltb-true, le-leb, lt-leb, lt-ltb, le-ltb, eqb-false}
 use Rattle.bits.specs.Bits.{bitOf, some}
-use Rattle.bits.proofs.Laws.{some-cong, word-cong, and-false}
+use Rattle.bits.proofs.Laws.{some-cong, word-cong}
 use Rattle.table.specs.declared.Grid.{Grid}
 use Rattle.table.specs.Entry.{held}
 use Rattle.table.specs.Room.{meeting, baseOf}

@@ -1,4 +1,5 @@
--- Where a pin and the pin before it can stand: the table, which counts a side's columns from the number of its pins, says what the model says.
+-- Where a pin and the pin before it can stand: the table, which counts a side's columns from the number of its pins, says what the
+-- model says.
 -- Assumes nothing.
 use Prim.Native.Nat.{ℕ, suc, _+_, _-_, _≤_, _<_}
 use mathlib.Core.Path.{_≡_, sym, _∙_, ap, ap₂}
@@ -9,11 +10,11 @@ use lib.ListN.{length}
 use Rattle.channel.specs.Sheet.{Terminal}
 use Rattle.channel.specs.Assignment.{allows}
 use Rattle.bits.specs.Bits.{bitOf, some}
-use Rattle.bits.proofs.Laws.{some-cong}
+use Rattle.bits.proofs.Laws.{some-cong, some-none}
 use Rattle.table.specs.Entry.{rangeAt, allowedAt}
 use Rattle.reach.specs.Reach.{anyBelow, terminalOf, near, stands}
 use Rattle.search.specs.Rules.{SideRules}
-use Rattle.search.proofs.Below.{any-some, some-none, some-and, some-turn, some-from-start, any-nested}
+use Rattle.search.proofs.Below.{any-some, some-and, some-turn, some-from-start, any-nested}
 
 -- Of one side: pin k + 1 stands in column x + (k + 1), and the pin before it, of which `more` says where it can stand, in some column
 -- left of that and in none below k

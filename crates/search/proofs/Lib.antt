@@ -11,4 +11,5 @@ pub mod Letters
 pub mod Traced
 pub mod Solving
 pub mod Answers
+pub mod Found
 pub mod TwoSearches

@@ -3,7 +3,7 @@
 use Prim.Native.Nat.{ℕ, zero, suc, _+_, _-_, _/_, _%_, _^_, _≤_, _<_}
 use mathlib.Core.Path.{_≡_, refl, sym, _∙_, ap}
 use mathlib.Core.List.{List, [], _∷_}
-use mathlib.Core.Bool.{Bool, true, false, _&&_, _||_, and-true, and-false}
+use mathlib.Core.Bool.{Bool, true, false, _&&_, _||_, and-true, and-false, or-false}
 use native.Mathlib.Omega.{arith}
 use native.Mathlib.Nat.{zero-add, suc-add}
 use native.Mathlib.Numerals.{add-one}
@@ -21,7 +21,7 @@ use Rattle.sheet.specs.Parts.{nth, terminalsIn, entryIn}
 use Rattle.sheet.proofs.Sections.{entry-found, entry-at}
 use Rattle.reach.specs.Reach.{noTerminal, terminalOf}
 use Rattle.bits.specs.Bits.{bitOf}
-use Rattle.bits.proofs.Laws.{bit-zero, bit-shr, bit-full, or-false}
+use Rattle.bits.proofs.Laws.{bit-zero, bit-shr, bit-full}
 use Rattle.search.specs.Sides.{TerminalRule}
 
 -- of the numbers below e, the word holds those of which f holds

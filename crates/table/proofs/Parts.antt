@@ -3,12 +3,12 @@
 use Prim.Native.Nat.{ℕ, suc, _+_, _-_, _≤_, _<_}
 use mathlib.Core.Path.{_≡_, refl, sym, _∙_, ap, ap₂}
 use mathlib.Core.List.{List}
-use mathlib.Core.Bool.{Bool, true, false, _&&_}
+use mathlib.Core.Bool.{Bool, true, false, _&&_, and-false}
 use native.Mathlib.Omega.{arith}
 use lib.Dec.{leb, ltb, eqb}
 use borrow.Author.Tests.{ltb-true, ltb-false, leb-true, leb-false, lt-ltb, le-ltb, eq-eqb, ne-eqb, eqb-true, eqb-false}
 use Rattle.bits.specs.Bits.{bitOf, some, stepped}
-use Rattle.bits.proofs.Laws.{and-false, some-cong}
+use Rattle.bits.proofs.Laws.{some-cong}
 use Rattle.table.specs.Entry.{loadAt, allowedAt, rangeAt, topPart, bottomPart, bothPart}
 
 pub and-true : (a : Bool) → (a && true) ≡ a

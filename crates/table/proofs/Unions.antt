@@ -2,12 +2,12 @@
 -- Assumes nothing.
 use Prim.Native.Nat.{ℕ, suc, _+_, _-_, _^_, _≤_, _<_}
 use mathlib.Core.Path.{_≡_, refl, sym, _∙_, ap}
-use mathlib.Core.Bool.{Bool, true, false, _&&_, _||_}
+use mathlib.Core.Bool.{Bool, true, false, _&&_, _||_, and-false}
 use native.Mathlib.Omega.{arith}
 use native.Mathlib.Numerals.{add-one}
 use lib.Dec.{leb, ltb, eqb}
 use Rattle.bits.specs.Bits.{bitOf, some, inWord}
-use Rattle.bits.proofs.Laws.{and-false, bit-zero, some-bit, some-from, some-none, word-none, word-from}
+use Rattle.bits.proofs.Laws.{bit-zero, some-bit, some-from, some-none, word-none, word-from}
 use borrow.Author.Tests.{ltb-true, ltb-false, lt-ltb, le-ltb, le-leb, lt-leb, eqb-true, eqb-false}
 
 -- the numbers k up to y of which f holds, where y is taken, and where it is not

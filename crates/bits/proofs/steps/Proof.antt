@@ -1,13 +1,14 @@
--- `bits::steps` meets its contract. The loop's invariant: what is reached is what is found so far or is still to be found by the bits that are left.
+-- `bits::steps` meets its contract. The loop's invariant: what is reached is what is found so far or is still to be found by the bits
+-- that are left.
 -- The measure is the number that those bits make.
 -- Assumes nothing.
 use Prim.Native.Nat.{ℕ, _<_}
 use mathlib.Core.Path.{_≡_, _∙_, sym, ap}
-use mathlib.Core.Bool.{_||_}
+use mathlib.Core.Bool.{_||_, or-false}
 use mathlib.Core.Logic.{⊎-elim}
 use native.Mathlib.Omega.{arith}
 use Rattle.bits.specs.Bits.{bitOf, stepped}
-use Rattle.bits.proofs.Laws.{bit-zero, stepped-none, or-false, odd-turn, even-turn}
+use Rattle.bits.proofs.Laws.{bit-zero, stepped-none, odd-turn, even-turn}
 use Rattle.bits.proofs.steps.Statement.{statement}
 use Rattle.bits.proofs.steps.Tie as tie
 

@@ -1,4 +1,6 @@
--- `reader::next` meets its contract: a walk of its MIR, by hand. The borrow is opened; of what the struct owns a copy goes to `step_at` (`Asking.antt`); the number that `passed_after` returns is stored beside the slice that the struct holds, and the borrow is closed at the struct with that number.
+-- `reader::next` meets its contract: a walk of its MIR, by hand. The borrow is opened; of what the struct owns a copy goes to
+-- `step_at` (`Asking.antt`); the number that `passed_after` returns is stored beside the slice that the struct holds, and the borrow
+-- is closed at the struct with that number.
 -- All that the proof knows of `step_at` and of `passed_after` is that each meets its contract.
 -- Assumes nothing.
 use mathlib.Core.Path.{_≡_, refl, ap}

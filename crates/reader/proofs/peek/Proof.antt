@@ -1,4 +1,5 @@
--- `reader::peek` meets its contract: a walk of its MIR, by hand. The struct is taken apart, and `step_at` is called on the slice and the number (`Asking.antt`).
+-- `reader::peek` meets its contract: a walk of its MIR, by hand. The struct is taken apart, and `step_at` is called on the slice and
+-- the number (`Asking.antt`).
 -- Assumes nothing.
 use mathlib.Core.Path.{_≡_, refl}
 use mathlib.Core.List.{[], _∷_}

@@ -1,4 +1,5 @@
--- `reader::read_at` meets its contract: a walk of its MIR, by hand. A reader is made in a local of the slice and the number passed, and `peek` is called on it. All that the proof knows of `peek` is that it meets its contract.
+-- `reader::read_at` meets its contract: a walk of its MIR, by hand. A reader is made in a local of the slice and the number passed,
+-- and `peek` is called on it. All that the proof knows of `peek` is that it meets its contract.
 -- A `&[u8]` is Copy, so what it owns is had twice: once for `sheet` at exit, and once inside the reader.
 -- Assumes nothing.
 use mathlib.Core.Path.{_≡_, refl}

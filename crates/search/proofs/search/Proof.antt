@@ -5,15 +5,12 @@ use borrow.Author.Needs.{needs}
 use Rattle.search.proofs.search.Statement.{statement}
 use Rattle.search.proofs.search.Tie as tie
 
--- src/lib.rt:27:9
 check-requires : tie.Need-check-requires
 check-requires c κs = search needs
 
--- src/lib.rt:28:29
 enum-known-checked : tie.Need-enum-known-checked
 enum-known-checked c = search needs
 
--- src/lib.rt:29:9
 returns : tie.Need-returns
 returns c =
     let at-check = c .before .before .before in
@@ -24,11 +21,9 @@ returns c =
 enum-told : tie.Need-enum-told
 enum-told c = search needs
 
--- src/lib.rt:31:9
 shape-of-requires : tie.Need-shape-of-requires
 shape-of-requires c κs = search needs
 
--- src/lib.rt:33:9
 returns-2 : tie.Need-returns-2
 returns-2 c =
     let at-enum-told = c .before .before .before in
@@ -38,7 +33,6 @@ returns-2 c =
     answers-columns (a .s .now) (a .columns .now) (a .work .now) _ (c .before .before .shape-of .result) (at-check .check .ensures)
     (at-enum-told .enum-told .given .1) (c .before .before .shape-of .ensures) (c .if1 .taken)
 
--- src/lib.rt:36:9
 returns-3 : tie.Need-returns-3
 returns-3 c =
     let at-shape-of = c .before .before .before .before in
@@ -49,15 +43,12 @@ returns-3 c =
     answers-cells (a .s .now) (a .columns .now) (a .work .now) _ (at-shape-of .shape-of .result) (at-check .check .ensures)
     (at-enum-told .enum-told .given .1) (at-shape-of .shape-of .ensures) (c .before .before .if1 .left) (c .if2 .taken)
 
--- src/lib.rt:38:9
 section-requires : tie.Need-section-requires
 section-requires c κs = search needs
 
--- src/lib.rt:39:9
 section-requires-2 : tie.Need-section-requires-2
 section-requires-2 c κs = search needs
 
--- src/lib.rt:40:9
 solve-requires : tie.Need-solve-requires
 solve-requires c κs =
     let at-section = c .before .before .before in
@@ -72,27 +63,21 @@ solve-requires c κs =
     (at-enum-told .enum-told .given .1) (at-shape-of .shape-of .ensures) _ _ (at-section .section .ensures)
     (c .before .before .section2 .ensures) (at-if1 .if1 .left) (at-if2 .if2 .left)
 
--- src/lib.rt:41:5
 clear-requires : tie.Need-clear-requires
 clear-requires c κs = search needs
 
--- src/lib.rt:43:24
 enum-known-outcome : tie.Need-enum-known-outcome
 enum-known-outcome c = search needs
 
--- src/lib.rt:44:29
 enum-told-2 : tie.Need-enum-told-2
 enum-told-2 c = search needs
 
--- src/lib.rt:24:1
 same-length : tie.Need-same-length
 same-length c = search needs
 
--- src/lib.rt:24:1
 same-length-2 : tie.Need-same-length-2
 same-length-2 c = search needs
 
--- src/lib.rt:24:1
 returns-4 : tie.Need-returns-4
 returns-4 c =
     let at-clear = c .before .before .before .before .before in
@@ -110,15 +95,12 @@ returns-4 c =
     (at-enum-told .enum-told .given .1) (at-shape-of .shape-of .ensures) _ _ (at-section .section .ensures) (at-section2 .section2 .ensures)
     (at-if1 .if1 .left) (at-if2 .if2 .left) _ _ _ _ (at-solve .solve .ensures) (at-clear .clear .ensures) _ (c .before .outcome .given .1)
 
--- src/lib.rt:24:1
 same-length-3 : tie.Need-same-length-3
 same-length-3 c = search needs
 
--- src/lib.rt:24:1
 same-length-4 : tie.Need-same-length-4
 same-length-4 c = search needs
 
--- src/lib.rt:24:1
 returns-5 : tie.Need-returns-5
 returns-5 c =
     let at-clear = c .before .before .before .before in

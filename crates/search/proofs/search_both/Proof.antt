@@ -3,31 +3,24 @@ use Rattle.search.proofs.search_both.Statement.{statement}
 use Rattle.search.proofs.search_both.Tie as tie
 use Rattle.search.proofs.TwoSearches.{two-searches}
 
--- src/lib.rt:60:9
 search-requires : tie.Need-search-requires
 search-requires c κs = search needs
 
--- src/lib.rt:61:9
 search-requires-2 : tie.Need-search-requires-2
 search-requires-2 c κs = search needs
 
--- src/lib.rt:57:1
 same-length : tie.Need-same-length
 same-length c = search needs
 
--- src/lib.rt:57:1
 same-length-2 : tie.Need-same-length-2
 same-length-2 c = search needs
 
--- src/lib.rt:57:1
 same-length-3 : tie.Need-same-length-3
 same-length-3 c = search needs
 
--- src/lib.rt:57:1
 same-length-4 : tie.Need-same-length-4
 same-length-4 c = search needs
 
--- src/lib.rt:57:1
 returns : tie.Need-returns
 returns c =
     let at-search2 = c .before .before .before .before in

@@ -1,4 +1,5 @@
--- `load::ends_of` meets its contract. The loop's invariant: the ends so far, with the pins that are left, make the ends. The measure is how many are left.
+-- `load::ends_of` meets its contract. The loop's invariant: the ends so far, with the pins that are left, make the ends. The measure
+-- is how many are left.
 -- Assumes nothing.
 use Prim.Native.Nat.{_+_, _≤_, _-_}
 use mathlib.Core.Path.{_≡_, refl, sym, ap, _∙_}

@@ -1,4 +1,5 @@
--- `load::stands` meets its contract. The loop's invariant: the net is in the list if it is among what is left. The measure is how many are left.
+-- `load::stands` meets its contract. The loop's invariant: the net is in the list if it is among what is left. The measure is how many
+-- are left.
 -- Assumes nothing.
 use Prim.Native.Nat.{_≤_, _-_}
 use mathlib.Core.Path.{_≡_, refl, sym, _∙_}

@@ -1,4 +1,5 @@
--- `measure::all_allowed` meets its contract. The loop's invariant: what is still to be said of the side is said by the places that are left.
+-- `measure::all_allowed` meets its contract. The loop's invariant: what is still to be said of the side is said by the places that are
+-- left.
 -- The measure is how many they are.
 -- Assumes nothing.
 use Prim.Native.Nat.{_+_, _-_, _≤_}

@@ -16,27 +16,21 @@ Inv-loop work₀ n i₀ work i = (i ≤ n) × (n ≤ length work₀) × (work �
 abbrev μ-loop : tie.MeasureT-loop
 μ-loop work₀ n i₀ work i = n - i
 
--- src/pass.rt:86:5
 loop-holds : tie.Need-loop-holds Inv-loop μ-loop
 loop-holds c = (omega arith, c .pre, fill-none _ 0)
 
--- src/pass.rt:87:9
 mul-work : tie.Need-mul-work Inv-loop μ-loop
 mul-work c = omega (arith, c .loop-test .taken, c .before .loop .inv .1)
 
--- src/pass.rt:87:9
 slice-write-work : tie.Need-slice-write-work Inv-loop μ-loop
 slice-write-work c = omega (arith, c .loop-test .taken, c .before .loop .inv .1, cleared-length (c .before .loop .i) (c .before .before .args .work .now) (c .before .loop .work) (omega (arith, c .loop-test .taken, c .before .loop .inv .1)) (c .before .loop .inv .2))
 
--- src/pass.rt:88:9
 add-i : tie.Need-add-i Inv-loop μ-loop
 add-i c = omega (arith, c .loop-test .taken, c .before .loop .inv .1)
 
--- src/pass.rt:86:5
 loop-less : tie.Need-loop-less Inv-loop μ-loop
 loop-less c = omega (arith, c .loop-test .taken)
 
--- src/pass.rt:86:5
 loop-again : tie.Need-loop-again Inv-loop μ-loop
 loop-again c =
     let l = c .before .loop in
@@ -46,11 +40,9 @@ loop-again c =
       ap (λ (cells : List ℕ). set cells (l .i) 0) (l .inv .2) ∙ fill-more (l .i) 0 (a .work .now) (omega (arith, c .loop-test .taken, l .inv .1)),
     )
 
--- src/pass.rt:81:1
 same-length : tie.Need-same-length Inv-loop μ-loop
 same-length c = let l = c .before .loop in cleared-length (l .i) (c .before .before .args .work .now) (l .work) (omega (arith, l .inv .0, l .inv .1)) (l .inv .2)
 
--- src/pass.rt:81:1
 returns : tie.Need-returns Inv-loop μ-loop
 returns c =
     let l = c .before .loop in

@@ -1,4 +1,5 @@
--- `search::least` meets its contract. The loop's invariant: all pins can be placed under the upper bound, and under nothing below the lower. The measure is what lies between.
+-- `search::least` meets its contract. The loop's invariant: all pins can be placed under the upper bound, and under nothing below the
+-- lower. The measure is what lies between.
 -- Assumes nothing.
 use Prim.Native.Nat.{_-_, _+_, _/_}
 use mathlib.Core.Path.{_≡_, refl, _∙_}
@@ -18,37 +19,29 @@ Inv-loop work₀ rules loads plan low₀ high₀ work low high =
 abbrev μ-loop : tie.MeasureT-loop
 μ-loop work₀ rules loads plan low₀ high₀ work low high = high - low
 
--- src/pass.rt:57:5
 loop-holds : tie.Need-loop-holds Inv-loop μ-loop
 loop-holds c = (between-start _ (c .before .before .before .pre .4), refl, refl)
 
--- src/pass.rt:58:29
 sub-middle : tie.Need-sub-middle Inv-loop μ-loop
 sub-middle c = omega (arith, c .before .loop .inv .0 .order)
 
--- src/pass.rt:58:22
 add-middle : tie.Need-add-middle Inv-loop μ-loop
 add-middle c = omega (arith, c .loop-test .taken, c .before .loop .inv .0 .top)
 
--- src/pass.rt:59:13
 try-bound-requires : tie.Need-try-bound-requires Inv-loop μ-loop
 try-bound-requires c κs =
     let start = c .before .before .before .before .before .before in
     (start .pre .0, lies-kept _ _ _ _ _ _ (c .before .before .loop .inv .1) (start .pre .1), start .pre .2, start .pre .3)
 
--- src/pass.rt:60:9
 pick-requires : tie.Need-pick-requires Inv-loop μ-loop
 pick-requires c κs = search needs
 
--- src/pass.rt:61:30
 add-pick : tie.Need-add-pick Inv-loop μ-loop
 add-pick c = omega (arith, c .before .before .before .before .before .loop-test .taken, c .before .before .before .before .before .before .loop .inv .0 .top)
 
--- src/pass.rt:61:9
 pick-requires-2 : tie.Need-pick-requires-2 Inv-loop μ-loop
 pick-requires-2 c κs = search needs
 
--- src/pass.rt:57:5
 loop-less : tie.Need-loop-less Inv-loop μ-loop
 loop-less c =
     let at-try-bound = c .before .before .before .before in
@@ -58,7 +51,6 @@ loop-less c =
     (at-loop .loop .low + (at-loop .loop .high - at-loop .loop .low) / 2) (at-try-bound .try-bound .result)
     (omega (arith, at-loop-test .loop-test .taken)) (omega (arith, at-loop-test .loop-test .taken)))
 
--- src/pass.rt:57:5
 loop-again : tie.Need-loop-again Inv-loop μ-loop
 loop-again c =
     let at-try-bound = c .before .before .before .before in
@@ -74,11 +66,9 @@ loop-again c =
       at-try-bound .try-bound .ensures .table .behind ∙ o .inv .2,
     )
 
--- src/pass.rt:51:1
 same-length : tie.Need-same-length Inv-loop μ-loop
 same-length c = c .before .loop .inv .1
 
--- src/pass.rt:51:1
 returns : tie.Need-returns Inv-loop μ-loop
 returns c =
     let o = c .before .loop in

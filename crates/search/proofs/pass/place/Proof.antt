@@ -6,11 +6,9 @@ use borrow.Author.Needs.{needs}
 use Rattle.search.proofs.pass.place.Statement.{statement}
 use Rattle.search.proofs.pass.place.Tie as tie
 
--- src/pass.rt:71:8
 try-bound-requires : tie.Need-try-bound-requires
 try-bound-requires c κs = search needs
 
--- src/pass.rt:72:13
 least-requires : tie.Need-least-requires
 least-requires c κs =
     let at-try-bound = c .before .before .before .before in
@@ -24,23 +22,18 @@ least-requires c κs =
       start .pre .5,
     )
 
--- src/pass.rt:73:9
 fill-requires : tie.Need-fill-requires
 fill-requires c κs = search needs
 
--- src/pass.rt:74:9
 walk-requires : tie.Need-walk-requires
 walk-requires c κs = search needs
 
--- src/pass.rt:75:9
 same-length : tie.Need-same-length
 same-length c = search needs
 
--- src/pass.rt:75:9
 same-length-2 : tie.Need-same-length-2
 same-length-2 c = search needs
 
--- src/pass.rt:75:9
 returns : tie.Need-returns
 returns c =
     let at-fill = c .before .before .before .before .before .before .before in
@@ -52,11 +45,9 @@ returns c =
       behind = at-fill .fill .ensures .behind ∙ at-least .least .ensures .behind ∙ at-try-bound .try-bound .ensures .table .behind;
     }
 
--- src/pass.rt:67:1
 same-length-3 : tie.Need-same-length-3
 same-length-3 c = search needs
 
--- src/pass.rt:67:1
 returns-2 : tie.Need-returns-2
 returns-2 c =
     record {

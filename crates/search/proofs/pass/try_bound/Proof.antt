@@ -9,15 +9,12 @@ use borrow.Author.Needs.{needs}
 use Rattle.search.proofs.pass.try_bound.Statement.{statement}
 use Rattle.search.proofs.pass.try_bound.Tie as tie
 
--- src/pass.rt:39:5
 fill-requires : tie.Need-fill-requires
 fill-requires c κs = search needs
 
--- src/pass.rt:40:16
 mul-base : tie.Need-mul-base
 mul-base c = search needs
 
--- src/pass.rt:40:34
 mul-base-2 : tie.Need-mul-base-2
 mul-base-2 c =
     let start = c .before .before .before .before .before .before .before .before .before .before in
@@ -28,7 +25,6 @@ mul-base-2 c =
           (a .plan .q) (le-refl (a .plan .p)) (le-refl (a .plan .q)),
     )
 
--- src/pass.rt:40:16
 add-base : tie.Need-add-base
 add-base c =
     let start = c .before .before .before .before .before .before .before .before .before .before in
@@ -39,23 +35,18 @@ add-base c =
           (a .plan .q) (le-refl (a .plan .p)) (le-refl (a .plan .q)),
     )
 
--- src/pass.rt:41:26
 sub-meets : tie.Need-sub-meets
 sub-meets c = search needs
 
--- src/pass.rt:41:73
 add-below : tie.Need-add-below
 add-below c = search needs
 
--- src/pass.rt:41:73
 sub-below : tie.Need-sub-below
 sub-below c = search needs
 
--- src/pass.rt:41:67
 below-requires : tie.Need-below-requires
 below-requires c κs = search needs
 
--- src/pass.rt:41:5
 meets-requires : tie.Need-meets-requires
 meets-requires c κs =
     let at-fill = c .before .before .before .before .before .before .before .before in
@@ -75,11 +66,9 @@ meets-requires c κs =
           (arith, start .pre .1 .sizes .rows .1),
     )
 
--- src/pass.rt:32:1
 same-length : tie.Need-same-length
 same-length c = search needs
 
--- src/pass.rt:32:1
 returns : tie.Need-returns
 returns c =
     let at-fill = c .before .before .before .before .before .before .before .before .before in

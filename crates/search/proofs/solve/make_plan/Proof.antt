@@ -6,35 +6,27 @@ use borrow.Author.Needs.{needs}
 use Rattle.search.proofs.solve.make_plan.Statement.{statement}
 use Rattle.search.proofs.solve.make_plan.Tie as tie
 
--- src/solve.rt:32:17
 add-size : tie.Need-add-size
 add-size c = search needs
 
--- src/solve.rt:32:27
 add-size-2 : tie.Need-add-size-2
 add-size-2 c = search needs
 
--- src/solve.rt:32:16
 mul-size : tie.Need-mul-size
 mul-size c = omega (arith, plane-small (c .args .l) (c .pre .0))
 
--- src/solve.rt:34:15
 rows-of-requires : tie.Need-rows-of-requires
 rows-of-requires c κs = search needs
 
--- src/solve.rt:35:17
 add-t7 : tie.Need-add-t7
 add-t7 c = search needs
 
--- src/solve.rt:37:18
 add-t8 : tie.Need-add-t8
 add-t8 c = search needs
 
--- src/solve.rt:37:17
 mul-t9 : tie.Need-mul-t9
 mul-t9 c = omega (arith, planes-small (c .before .args .l) (c .before .args .q) (c .before .pre .0) (c .before .pre .2))
 
--- src/solve.rt:28:1
 returns : tie.Need-returns
 returns c = rw (c .rows-of .ensures)
 

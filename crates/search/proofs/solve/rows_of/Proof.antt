@@ -5,19 +5,15 @@ use borrow.Author.Needs.{needs}
 use Rattle.search.proofs.solve.rows_of.Statement.{statement}
 use Rattle.search.proofs.solve.rows_of.Tie as tie
 
--- src/solve.rt:22:9
 returns : tie.Need-returns
 returns c = rw (eq-eqb _ _ (c .if1 .taken))
 
--- src/solve.rt:24:5
 sub-result : tie.Need-sub-result
 sub-result c = search needs
 
--- src/solve.rt:24:5
 add-result : tie.Need-add-result
 add-result c = search needs
 
--- src/solve.rt:17:1
 returns-2 : tie.Need-returns-2
 returns-2 c = rw (ne-eqb _ _ (c .if1 .left))
 

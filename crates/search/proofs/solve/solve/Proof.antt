@@ -11,29 +11,24 @@ use Rattle.search.proofs.Solving.{loads-sheet, section-counts, crowded-
 use Rattle.search.proofs.solve.solve.Statement.{statement}
 use Rattle.search.proofs.solve.solve.Tie as tie
 
--- src/solve.rt:51:9
 returns : tie.Need-returns
 returns c =
     let start = c .before .before .before .before .before in
     let a = start .args in
     crowded-solved (a .top .now) (a .bottom .now) (a .shape) (length (a .columns .now)) (length (a .work .now)) (start .pre) _ _ (inl (c .if1 .taken))
 
--- src/solve.rt:54:9
 returns-2 : tie.Need-returns-2
 returns-2 c =
     let start = c .before .before .before .before .before .before in
     let a = start .args in
     crowded-solved (a .top .now) (a .bottom .now) (a .shape) (length (a .columns .now)) (length (a .work .now)) (start .pre) _ _ (inr (c .if2 .taken))
 
--- src/solve.rt:56:9
 make-plan-requires : tie.Need-make-plan-requires
 make-plan-requires c κs = search needs
 
--- src/solve.rt:58:21
 slice-aggregate-read-rules : tie.Need-slice-aggregate-read-rules
 slice-aggregate-read-rules c = search needs
 
--- src/solve.rt:58:5
 read-rules-requires : tie.Need-read-rules-requires
 read-rules-requires c κs =
     let start = c .before .before .before .before .before .before .before .before in
@@ -44,11 +39,9 @@ read-rules-requires c κs =
           (start .pre) .0,
     )
 
--- src/solve.rt:59:24
 slice-aggregate-read-rules-2 : tie.Need-slice-aggregate-read-rules-2
 slice-aggregate-read-rules-2 c = search needs
 
--- src/solve.rt:59:5
 read-rules-requires-2 : tie.Need-read-rules-requires-2
 read-rules-requires-2 c κs =
     let start = c .before .before .before .before .before .before .before .before .before .before .before in
@@ -59,11 +52,9 @@ read-rules-requires-2 c κs =
           (length (a .columns .now)) (length (a .work .now)) (start .pre) .1,
     )
 
--- src/solve.rt:61:35
 slice-aggregate-read-loads : tie.Need-slice-aggregate-read-loads
 slice-aggregate-read-loads c = search needs
 
--- src/solve.rt:61:5
 read-loads-requires : tie.Need-read-loads-requires
 read-loads-requires c κs =
     let start = c .before .before .before .before .before .before .before .before .before .before .before .before .before .before in
@@ -75,15 +66,12 @@ read-loads-requires c κs =
       refl,
     )
 
--- src/solve.rt:62:17
 slice-aggregate-place : tie.Need-slice-aggregate-place
 slice-aggregate-place c = search needs
 
--- src/solve.rt:62:25
 slice-aggregate-place-2 : tie.Need-slice-aggregate-place-2
 slice-aggregate-place-2 c = search needs
 
--- src/solve.rt:62:5
 place-requires : tie.Need-place-requires
 place-requires c κs =
     let at-read-loads = c .before .before .before .before .before in
@@ -102,15 +90,12 @@ place-requires c κs =
     (loads-sheet (a .shape .columns) (a .top .now) (a .bottom .now) _ _ (at-read-loads .read-loads .ensures))
     (at-read-rules2 .read-rules2 .ensures .kept ∙ at-read-rules .read-rules .ensures .kept) (at-read-loads .read-loads .ensures .size)
 
--- src/solve.rt:43:1
 same-length : tie.Need-same-length
 same-length c = search needs
 
--- src/solve.rt:43:1
 same-length-2 : tie.Need-same-length-2
 same-length-2 c = search needs
 
--- src/solve.rt:43:1
 returns-3 : tie.Need-returns-3
 returns-3 c =
     let at-place = c .before .before .before .before in

@@ -10,31 +10,26 @@ use borrow.Author.Needs.{needs}
 use Rattle.search.proofs.walk.bottom_fits.Statement.{statement}
 use Rattle.search.proofs.walk.bottom_fits.Tie as tie
 
--- src/walk.rt:118:9
 returns : tie.Need-returns
 returns c =
     let start = c .before .before .before in
     let a = start .args in
     no-pin-below (a .work .now) (a .rules .now) (a .grid) (a .p) (a .q) (a .m) (c .if1 .taken)
 
--- src/walk.rt:121:9
 returns-2 : tie.Need-returns-2
 returns-2 c =
     let start = c .before .before .before .before in
     let a = start .args in
     no-room-below (a .work .now) (a .rules .now) (a .grid) (a .p) (a .q) (a .m) (c .if2 .taken)
 
--- src/walk.rt:123:12
 steps-to-requires : tie.Need-steps-to-requires
 steps-to-requires c κs = search needs
 
--- src/walk.rt:123:38
 stands-at-requires : tie.Need-stands-at-requires
 stands-at-requires c κs =
     let start = c .before .before .before .before .before in
     (start .pre .1 .j, λ h. omega (arith, start .pre .1 .bottom h, c .before .if2 .left))
 
--- src/walk.rt:123:38
 sub-bit : tie.Need-sub-bit
 sub-bit c =
     let at-if1 = c .before .before .before in
@@ -45,19 +40,15 @@ sub-bit c =
     (λ h. omega (arith, start .pre .1 .bottom h, c .before .before .if2 .left)) (start .pre .1 .j)
     (omega (arith, at-if1 .if1 .left, start .pre .1 .c)))
 
--- src/walk.rt:123:8
 bit-requires : tie.Need-bit-requires
 bit-requires c κs = search needs
 
--- src/walk.rt:124:55
 single-requires : tie.Need-single-requires
 single-requires c κs = search needs
 
--- src/walk.rt:124:9
 empty-fits-requires : tie.Need-empty-fits-requires
 empty-fits-requires c κs = search needs
 
--- src/walk.rt:124:9
 returns-3 : tie.Need-returns-3
 returns-3 c =
     let at-bit = c .before .before .before in
@@ -74,7 +65,6 @@ returns-3 c =
     (c .empty-fits .ensures ∙ left-same (a .work .now) (a .rules .now) (a .grid) (a .p) (a .m) _ (λ (y : ℕ). eqb y (a .m .c - a .m .j))
     (c .before .single .ensures))
 
--- src/walk.rt:111:1
 returns-4 : tie.Need-returns-4
 returns-4 c =
     let at-steps-to = c .before .before .before in

@@ -7,15 +7,12 @@ use borrow.Author.Needs.{needs}
 use Rattle.search.proofs.walk.choose.Statement.{statement}
 use Rattle.search.proofs.walk.choose.Tie as tie
 
--- src/walk.rt:135:9
 left-numbers-requires : tie.Need-left-numbers-requires
 left-numbers-requires c κs = search needs
 
--- src/walk.rt:136:8
 empty-fits-requires : tie.Need-empty-fits-requires
 empty-fits-requires c κs = search needs
 
--- src/walk.rt:137:9
 returns : tie.Need-returns
 returns c =
     let start = c .before .before .before .before .before in
@@ -24,11 +21,9 @@ returns c =
     (sym (c .before .empty-fits .ensures ∙ left-same (a .work .now) (a .rules .now) (a .grid) (a .p) (a .m) _
     (lefts (a .rules .now) (a .q) (a .m)) (c .before .before .left-numbers .ensures)) ∙ c .if1 .taken)
 
--- src/walk.rt:139:8
 top-fits-requires : tie.Need-top-fits-requires
 top-fits-requires c κs = search needs
 
--- src/walk.rt:140:9
 returns-2 : tie.Need-returns-2
 returns-2 c =
     let at-empty-fits = c .before .before .before in
@@ -41,11 +36,9 @@ returns-2 c =
     (sym (c .before .top-fits .ensures ∙ here-same (a .work .now) (a .rules .now) (a .grid) (a .p) (a .m) _
     (lefts (a .rules .now) (a .q) (a .m)) (at-left-numbers .left-numbers .ensures)) ∙ c .if2 .taken)
 
--- src/walk.rt:142:8
 bottom-fits-requires : tie.Need-bottom-fits-requires
 bottom-fits-requires c κs = search needs
 
--- src/walk.rt:143:9
 returns-3 : tie.Need-returns-3
 returns-3 c =
     let at-top-fits = c .before .before .before in
@@ -61,7 +54,6 @@ returns-3 c =
     (lefts (a .rules .now) (a .q) (a .m)) (at-left-numbers .left-numbers .ensures)) ∙ c .before .before .if2 .left)
     (sym (c .before .bottom-fits .ensures) ∙ c .if3 .taken)
 
--- src/walk.rt:131:1
 returns-4 : tie.Need-returns-4
 returns-4 c =
     let at-top-fits = c .before .before .before in

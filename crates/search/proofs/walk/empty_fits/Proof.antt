@@ -8,18 +8,15 @@ use borrow.Author.Needs.{needs}
 use Rattle.search.proofs.walk.empty_fits.Statement.{statement}
 use Rattle.search.proofs.walk.empty_fits.Tie as tie
 
--- src/walk.rt:77:16
 sub-left : tie.Need-sub-left
 sub-left c = search needs
 
--- src/walk.rt:79:9
 returns : tie.Need-returns
 returns c =
     let start = c .before .before .before .before in
     let a = start .args in
     none-left (a .work .now) (a .rules .now) (a .grid) (a .p) (a .m) (a .lefts) (c .if1 .taken)
 
--- src/walk.rt:81:16
 mul-base : tie.Need-mul-base
 mul-base c =
     let start = c .before .before .before .before .before in
@@ -30,7 +27,6 @@ mul-base c =
           (start .pre .1 .j),
     )
 
--- src/walk.rt:81:34
 mul-base-2 : tie.Need-mul-base-2
 mul-base-2 c =
     let start = c .before .before .before .before .before .before .before in
@@ -41,7 +37,6 @@ mul-base-2 c =
           (start .pre .1 .j),
     )
 
--- src/walk.rt:81:16
 add-base : tie.Need-add-base
 add-base c =
     let start = c .before .before .before .before .before .before .before in
@@ -52,22 +47,18 @@ add-base c =
           (start .pre .1 .j),
     )
 
--- src/walk.rt:82:9
 stands-at-requires : tie.Need-stands-at-requires
 stands-at-requires c κs =
     let at-if1 = c .before .before .before in
     let start = at-if1 .before .before .before .before in
     (start .pre .1 .i, λ h. omega (arith, start .pre .1 .top h, at-if1 .if1 .left, start .pre .2))
 
--- src/walk.rt:83:9
 steps-to-requires : tie.Need-steps-to-requires
 steps-to-requires c κs = search needs
 
--- src/walk.rt:84:26
 last-row-requires : tie.Need-last-row-requires
 last-row-requires c κs = search needs
 
--- src/walk.rt:84:5
 meets-requires : tie.Need-meets-requires
 meets-requires c κs =
     let at-if1 = c .before .before .before .before .before .before in
@@ -90,7 +81,6 @@ meets-requires c κs =
           (start .pre .1 .i) (omega (arith, below, start .pre .1 .c))),
     )
 
--- src/walk.rt:72:1
 returns-2 : tie.Need-returns-2
 returns-2 c =
     let at-stands-at = c .before .before .before in

@@ -5,43 +5,33 @@ use borrow.Author.Needs.{needs}
 use Rattle.search.proofs.walk.go.Statement.{statement}
 use Rattle.search.proofs.walk.go.Tie as tie
 
--- src/walk.rt:185:9
 has-top-requires : tie.Need-has-top-requires
 has-top-requires c κs = search needs
 
--- src/walk.rt:186:9
 has-bottom-requires : tie.Need-has-bottom-requires
 has-bottom-requires c κs = search needs
 
--- src/walk.rt:188:12
 sub-t5 : tie.Need-sub-t5
 sub-t5 c = search needs
 
--- src/walk.rt:189:22
 less-requires : tie.Need-less-requires
 less-requires c κs = search needs
 
--- src/walk.rt:189:12
 pick-requires : tie.Need-pick-requires
 pick-requires c κs = search needs
 
--- src/walk.rt:190:25
 less-requires-2 : tie.Need-less-requires-2
 less-requires-2 c κs = search needs
 
--- src/walk.rt:190:12
 pick-requires-2 : tie.Need-pick-requires-2
 pick-requires-2 c κs = search needs
 
--- src/walk.rt:191:14
 pick-requires-3 : tie.Need-pick-requires-3
 pick-requires-3 c κs = search needs
 
--- src/walk.rt:192:17
 pick-requires-4 : tie.Need-pick-requires-4
 pick-requires-4 c κs = search needs
 
--- src/walk.rt:181:1
 returns : tie.Need-returns
 returns c =
     let at-less2 = c .before .before .before in

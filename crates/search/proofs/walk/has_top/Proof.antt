@@ -5,15 +5,12 @@ use native.Mathlib.Omega.{arith}
 use Rattle.search.proofs.walk.has_top.Statement.{statement}
 use Rattle.search.proofs.walk.has_top.Tie as tie
 
--- src/walk.rt:152:9
 returns : tie.Need-returns
 returns c = rw (le-ltb 0 (c .before .args .i) (omega (arith, c .if1 .taken)))
 
--- src/walk.rt:148:1
 returns-2 : tie.Need-returns-2
 returns-2 c = rw (lt-ltb 0 (c .before .before .args .i) (omega (arith, c .before .if1 .left)), eq-eqb _ _ (c .if2 .taken))
 
--- src/walk.rt:148:1
 returns-3 : tie.Need-returns-3
 returns-3 c = rw (lt-ltb 0 (c .before .before .args .i) (omega (arith, c .before .if1 .left)), ne-eqb _ _ (c .if2 .left))
 

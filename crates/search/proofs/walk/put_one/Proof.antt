@@ -4,19 +4,15 @@ use borrow.Author.Needs.{needs}
 use Rattle.search.proofs.walk.put_one.Statement.{statement}
 use Rattle.search.proofs.walk.put_one.Tie as tie
 
--- src/walk.rt:202:9
 slice-write-columns : tie.Need-slice-write-columns
 slice-write-columns c = c .before .pre (c .if1 .taken)
 
--- src/walk.rt:197:1
 same-length : tie.Need-same-length
 same-length c = search needs
 
--- src/walk.rt:197:1
 returns : tie.Need-returns
 returns c = rw (c .if1 .taken)
 
--- src/walk.rt:197:1
 returns-2 : tie.Need-returns-2
 returns-2 c = rw (c .if1 .left)
 

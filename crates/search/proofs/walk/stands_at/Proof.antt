@@ -6,19 +6,15 @@ use borrow.Author.Needs.{needs}
 use Rattle.search.proofs.walk.stands_at.Statement.{statement}
 use Rattle.search.proofs.walk.stands_at.Tie as tie
 
--- src/walk.rt:42:9
 returns : tie.Need-returns
 returns c = rw (eq-eqb _ _ (c .if1 .taken))
 
--- src/walk.rt:44:11
 add-result : tie.Need-add-result
 add-result c = search needs
 
--- src/walk.rt:44:5
 sub-result : tie.Need-sub-result
 sub-result c = c .before .pre .1 (omega (arith, c .before .pre .0, c .if1 .left))
 
--- src/walk.rt:37:1
 returns-2 : tie.Need-returns-2
 returns-2 c = rw (ne-eqb _ _ (c .if1 .left))
 

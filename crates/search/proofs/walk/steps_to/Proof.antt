@@ -9,27 +9,21 @@ use borrow.Author.Needs.{needs}
 use Rattle.search.proofs.walk.steps_to.Statement.{statement}
 use Rattle.search.proofs.walk.steps_to.Tie as tie
 
--- src/walk.rt:31:9
 returns : tie.Need-returns
 returns c = rw (eq-eqb _ _ (c .if1 .taken))
 
--- src/walk.rt:33:11
 mul-result : tie.Need-mul-result
 mul-result c = search needs
 
--- src/walk.rt:33:11
 add-result : tie.Need-add-result
 add-result c = search needs
 
--- src/walk.rt:33:5
 mul-result-2 : tie.Need-mul-result-2
 mul-result-2 c = search needs
 
--- src/walk.rt:33:5
 shared-slice-read-result : tie.Need-shared-slice-read-result
 shared-slice-read-result c = search needs
 
--- src/walk.rt:26:1
 returns-2 : tie.Need-returns-2
 returns-2 c =
     let a = c .before .before .args in

@@ -8,21 +8,18 @@ use borrow.Author.Needs.{needs}
 use Rattle.search.proofs.walk.top_fits.Statement.{statement}
 use Rattle.search.proofs.walk.top_fits.Tie as tie
 
--- src/walk.rt:95:9
 returns : tie.Need-returns
 returns c =
     let start = c .before .before .before in
     let a = start .args in
     no-row (a .work .now) (a .rules .now) (a .grid) (a .p) (a .m) (a .lefts) (c .if1 .taken)
 
--- src/walk.rt:98:9
 returns-2 : tie.Need-returns-2
 returns-2 c =
     let start = c .before .before .before .before in
     let a = start .args in
     no-row-left (a .work .now) (a .rules .now) (a .grid) (a .p) (a .m) (a .lefts) (c .if2 .taken)
 
--- src/walk.rt:102:20
 mul-base : tie.Need-mul-base
 mul-base c =
     let start = c .before .before .before .before .before .before .before in
@@ -33,7 +30,6 @@ mul-base c =
           (start .pre .1 .j),
     )
 
--- src/walk.rt:102:38
 mul-base-2 : tie.Need-mul-base-2
 mul-base-2 c =
     let start = c .before .before .before .before .before .before .before .before .before in
@@ -44,7 +40,6 @@ mul-base-2 c =
           (start .pre .1 .j),
     )
 
--- src/walk.rt:102:20
 add-base : tie.Need-add-base
 add-base c =
     let start = c .before .before .before .before .before .before .before .before .before in
@@ -55,18 +50,15 @@ add-base c =
           (start .pre .1 .j),
     )
 
--- src/walk.rt:103:13
 stands-at-requires : tie.Need-stands-at-requires
 stands-at-requires c κs =
     let at-if2 = c .before .before .before .before .before in
     let start = at-if2 .before .before .before .before in
     (start .pre .1 .i, λ h. omega (arith, start .pre .1 .top h, at-if2 .if2 .left))
 
--- src/walk.rt:104:13
 steps-to-requires : tie.Need-steps-to-requires
 steps-to-requires c κs = search needs
 
--- src/walk.rt:105:9
 meets-requires : tie.Need-meets-requires
 meets-requires c κs =
     let at-if3 = c .before .before .before .before .before in
@@ -88,7 +80,6 @@ meets-requires c κs =
           (start .pre .1 .i) (omega (arith, at-if1 .if1 .left, start .pre .1 .c))),
     )
 
--- src/walk.rt:105:9
 returns-3 : tie.Need-returns-3
 returns-3 c =
     let at-if3 = c .before .before .before .before .before .before in
@@ -99,7 +90,6 @@ returns-3 c =
     c .meets .ensures ∙ row-here (a .work .now) (a .rules .now) (a .grid) (a .p) (a .m) (a .lefts) _ _ _ (at-if1 .if1 .left)
     (at-if2 .if2 .left) (at-if3 .if3 .taken) refl (c .before .before .stands-at .ensures) (c .before .steps-to .ensures)
 
--- src/walk.rt:88:1
 returns-4 : tie.Need-returns-4
 returns-4 c =
     let start = c .before .before .before .before .before .before in

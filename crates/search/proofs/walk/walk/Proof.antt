@@ -1,4 +1,5 @@
--- `search::walk` meets its contract. The loop's invariant: what is still to be walked leads to the same columns. The measure is how many columns are left.
+-- `search::walk` meets its contract. The loop's invariant: what is still to be walked leads to the same columns. The measure is how
+-- many columns are left.
 -- Assumes nothing.
 use Prim.Native.Nat.{ℕ, _-_}
 use mathlib.Core.Path.{_≡_, refl, _∙_, sym, ap}
@@ -21,34 +22,27 @@ Inv-loop work rules grid p q l columns₀ m₀ left₀ columns m left =
 abbrev μ-loop : tie.MeasureT-loop
 μ-loop work rules grid p q l columns₀ m₀ left₀ columns m left = left
 
--- src/walk.rt:223:5
 loop-holds : tie.Need-loop-holds Inv-loop μ-loop
 loop-holds c = let a = c .before .before .before .args in (refl, walks-from (a .p) (a .q) (a .l) (c .before .before .before .pre .1), refl, refl)
 
--- src/walk.rt:224:13
 choose-requires : tie.Need-choose-requires Inv-loop μ-loop
 choose-requires c κs = (c .before .before .before .before .before .pre .0, c .before .loop .inv .1, omega (arith, c .loop-test .taken, c .before .loop .inv .0))
 
--- src/walk.rt:225:9
 put-requires : tie.Need-put-requires Inv-loop μ-loop
 put-requires c κs =
     let at-loop = c .before .before .before in
     let start = at-loop .before .before .before .before in
     (at-loop .loop .inv .1 .c, at-loop .loop .inv .1 .i, omega (arith, start .pre .2, at-loop .loop .inv .2, at-loop .loop .inv .1 .j))
 
--- src/walk.rt:226:9
 go-requires : tie.Need-go-requires Inv-loop μ-loop
 go-requires c κs = omega (arith, c .before .before .before .before .before .loop-test .taken, c .before .before .before .before .before .before .loop .inv .0)
 
--- src/walk.rt:227:9
 sub-left : tie.Need-sub-left Inv-loop μ-loop
 sub-left c = omega (arith, c .before .before .before .before .before .before .loop-test .taken)
 
--- src/walk.rt:223:5
 loop-less : tie.Need-loop-less Inv-loop μ-loop
 loop-less c = omega (arith, c .before .before .before .before .before .before .loop-test .taken)
 
--- src/walk.rt:223:5
 loop-again : tie.Need-loop-again Inv-loop μ-loop
 loop-again c =
     let at-put = c .before .before .before in
@@ -67,11 +61,9 @@ loop-again c =
           ∙ o .inv .3,
     )
 
--- src/walk.rt:217:1
 same-length : tie.Need-same-length Inv-loop μ-loop
 same-length c = c .before .loop .inv .2
 
--- src/walk.rt:217:1
 returns : tie.Need-returns Inv-loop μ-loop
 returns c =
     let a = c .before .before .before .before .before .args in

@@ -1,4 +1,5 @@
--- `sheet::read_number` meets its contract. The loop's invariant: the value is the number in the bytes passed, and is below 2 to the number of their bits.
+-- `sheet::read_number` meets its contract. The loop's invariant: the value is the number in the bytes passed, and is below 2 to the
+-- number of their bits.
 -- The measure is how many bytes are left.
 -- Assumes nothing.
 use Prim.Native.Nat.{ℕ, _≤_, _<_, _+_, _-_, _*_, _^_}

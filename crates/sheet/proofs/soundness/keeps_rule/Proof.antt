@@ -1,4 +1,5 @@
--- `sheet::keeps_rule` meets its contract: the first test picks the rule, the second decides its first half, and the third is the other half.
+-- `sheet::keeps_rule` meets its contract: the first test picks the rule, the second decides its first half, and the third is the other
+-- half.
 -- Assumes nothing.
 use borrow.Author.Tests.{eq-eqb, ne-eqb, le-leb, lt-leb}
 use Rattle.sheet.proofs.soundness.keeps_rule.Statement.{statement}

@@ -1,4 +1,5 @@
--- `sheet_cases::build::put_row` is safe and ends. The loop's test keeps k below 12, so the invariant says nothing; the measure is the bytes left.
+-- `sheet_cases::build::put_row` is safe and ends. The loop's test keeps k below 12, so the invariant says nothing; the measure is the
+-- bytes left.
 -- Assumes nothing.
 use Prim.Native.Nat.{_-_}
 use native.Mathlib.Omega.{arith}

@@ -1,4 +1,5 @@
--- `sheet_cases::build::put_side` is safe and ends. The loop's test keeps k below `count`, so the invariant says nothing; the measure is the terminals left.
+-- `sheet_cases::build::put_side` is safe and ends. The loop's test keeps k below `count`, so the invariant says nothing; the measure
+-- is the terminals left.
 -- Assumes nothing.
 use Prim.Native.Nat.{_-_}
 use native.Mathlib.Omega.{arith}

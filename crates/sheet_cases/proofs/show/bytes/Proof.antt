@@ -1,4 +1,5 @@
--- `sheet_cases::show::bytes` is safe and ends. The branch keeps k within `part`, so the invariant says nothing; the measure is the bytes left.
+-- `sheet_cases::show::bytes` is safe and ends. The branch keeps k within `part`, so the invariant says nothing; the measure is the
+-- bytes left.
 -- Assumes nothing.
 use Prim.Native.Nat.{_-_}
 use native.Mathlib.Omega.{arith}

@@ -1,4 +1,5 @@
--- `table::back` meets its contract. The loop's invariant: what is found are the numbers passed whose step is in range. The measure is how many are left.
+-- `table::back` meets its contract. The loop's invariant: what is found are the numbers passed whose step is in range. The measure is
+-- how many are left.
 -- Assumes nothing.
 use Prim.Native.Nat.{ℕ, _≤_, _<_, _+_, _-_}
 use mathlib.Core.Path.{_≡_, _∙_, sym, ap, ap₂}
