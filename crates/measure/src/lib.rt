@@ -1,8 +1,11 @@
 // The density of a given column list. The sheet is read only through the sheet layer.
 
+mod answer;
 mod count;
 mod rules;
 
+pub use answer::density_of;
+pub use answer::number_of;
 use count::list_density;
 use rules::all_allowed;
 use rules::out_of_range;
@@ -14,7 +17,7 @@ ghost use Rattle.sheet.specs.Parts.{terminalsIn};
 ghost use Rattle.measure.specs.Answer.{measuredOf, listMeasured};
 ghost use Rattle.measure.specs.Inner.{sheetWith, Laid};
 
-// The answer of a measurement; `numberOf` and `densityOf` of specs/Answer.antt give its number and density.
+// The answer of a measurement; `number_of` and `density_of` give its number and its density.
 pub enum Measured {
     Density(u32),
     Sheet(Refusal),

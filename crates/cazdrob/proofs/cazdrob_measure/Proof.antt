@@ -1,0 +1,30 @@
+use borrow.Author.Needs.{needs}
+use mathlib.Core.Path.{_∙_, ap}
+use Rattle.measure.specs.Answer.{numberOf, densityOf}
+use Rattle.cazdrob.proofs.cazdrob_measure.Statement.{statement}
+use Rattle.cazdrob.proofs.cazdrob_measure.Tie as tie
+
+measure-requires : tie.Need-measure-requires
+measure-requires c κs = search needs
+
+density-of-requires : tie.Need-density-of-requires
+density-of-requires c κs = search needs
+
+number-of-requires : tie.Need-number-of-requires
+number-of-requires c κs = search needs
+
+wide-requires : tie.Need-wide-requires
+wide-requires c κs = search needs
+
+returns : tie.Need-returns
+returns c =
+    let at-number = c .before in
+    let at-density = at-number .before in
+    let answer = at-density .before .measure .ensures in
+    record {
+      number = c .wide .ensures ∙ at-number .number-of .ensures ∙ ap numberOf answer;
+      density = at-density .density-of .ensures ∙ ap densityOf answer;
+    }
+
+pub cazdrob-measure-spec : {M : Type 1} → statement M
+cazdrob-measure-spec = tie.close (tie.spec measure-requires density-of-requires number-of-requires wide-requires returns)

@@ -1,0 +1,27 @@
+-- What the C functions return and leave behind, in document 01's numbers.
+-- Assumes nothing.
+use Prim.Native.Nat.{ℕ}
+use mathlib.Core.Path.{_≡_}
+use mathlib.Core.List.{List}
+use lib.ListN.{length}
+use Rattle.sheet.specs.declared.Checked.{Checked}
+use Rattle.sheet.specs.declared.Checked.the-variants.{Sound, Refused}
+use Rattle.sheet.specs.Refusals as sheet
+use Rattle.measure.specs.Answer as measure
+use Rattle.search.specs.Answer as search
+
+-- the number of a sheet's refusal; 0 for a sound sheet
+abbrev pub checkNumber : Checked → ℕ
+checkNumber Sound = 0
+checkNumber (Refused why) = sheet.numberOf why
+
+-- the promise of a measurement: its number, and the density it leaves
+pub record HostMeasures (bytes columns : List ℕ) (density' r : ℕ) : Type 0 where
+  pub number : r ≡ measure.numberOf (measure.measuredOf bytes columns)
+  pub density : density' ≡ measure.densityOf (measure.measuredOf bytes columns)
+
+-- the promise of a search: its number, the density it leaves, and the library's own promise on both buffers
+pub record HostSearches (bytes buffer work buffer' work' : List ℕ) (density' r : ℕ) : Type 0 where
+  pub number : r ≡ search.numberOf (search.searchedOf bytes (length buffer) (length work))
+  pub density : density' ≡ search.densityOf (search.searchedOf bytes (length buffer) (length work))
+  pub buffers : search.Searches bytes buffer work buffer' work' (search.searchedOf bytes (length buffer) (length work))

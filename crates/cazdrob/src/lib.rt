@@ -1,0 +1,65 @@
+// The library's face for hosts: C functions that answer with document 01's numbers. include/cazdrob.h declares them. None asks
+// anything of its caller but what the types of its parameters say.
+use sheet::Checked;
+ghost use mathlib.Core.Path.{_≡_};
+ghost use Rattle.sheet.specs.Check.{checkOf};
+ghost use Rattle.sheet.specs.Parts.{shapeOf};
+ghost use Rattle.cazdrob.specs.Host.{checkNumber, HostMeasures, HostSearches};
+
+// The number of the sheet's refusal; 0 for a sound sheet.
+#[no_mangle]
+pub extern "C" fn cazdrob_check(s: &[u8]) -> u32
+    ensures { λ r. ⌜ r ≡ checkNumber (checkOf (now (s .entry))) ⌝ }
+{
+    wide(number_of(sheet::check(s)))
+}
+
+// The number of the check's answer.
+fn number_of(checked: Checked) -> u8
+    ensures { λ r. ⌜ r ≡ checkNumber checked ⌝ }
+{
+    match checked {
+        Checked::Sound => 0,
+        Checked::Refused(why) => sheet::number_of(why),
+    }
+}
+
+fn wide(x: u8) -> u32
+    ensures { λ r. ⌜ r ≡ x ⌝ }
+{
+    x as u32
+}
+
+// The work cells that a search of the sheet needs; 0 for a refused sheet.
+#[no_mangle]
+pub extern "C" fn cazdrob_cells(s: &[u8]) -> usize
+    ensures { λ r. ⌜ r ≡ shapeOf (now (s .entry)) .cells ⌝ }
+{
+    let shape = sheet::shape_of(s);
+    shape.cells
+}
+
+// Measures a column list: 0 with its density, or the number of a refusal with density 0.
+#[no_mangle]
+pub extern "C" fn cazdrob_measure(s: &[u8], columns: &[u8], density: &mut u32) -> u32
+    ensures { λ r. ⌜ HostMeasures (now (s .entry)) (now (columns .entry)) (now (density .exit)) r ⌝ }
+{
+    let answer = measure::measure(s, columns);
+    *density = measure::density_of(answer);
+    wide(measure::number_of(answer))
+}
+
+// Finds the best assignment: 0 with its density and its columns, or the number of a refusal with density 0.
+#[no_mangle]
+pub extern "C" fn cazdrob_search(
+    s: &[u8],
+    columns: &mut [u8],
+    work: &mut [u16],
+    density: &mut u32,
+) -> u32
+    ensures { λ r. ⌜ HostSearches (now (s .entry)) (now (columns .entry)) (now (work .entry)) (now (columns .exit)) (now (work .exit)) (now (density .exit)) r ⌝ }
+{
+    let answer = search::search(s, columns, work);
+    *density = wide(search::density_of(answer));
+    wide(search::number_of(answer))
+}
