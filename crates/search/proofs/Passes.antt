@@ -8,10 +8,13 @@ use mathlib.Core.Logic.{inl}
 use native.Mathlib.Omega.{arith}
 use native.Mathlib.Nat.{le-refl}
 use lib.Dec.{leb, ltb, leb·zero}
+use borrow.Author.Tests.{ltb-true, ltb-false}
 use Rattle.bits.specs.Bits.{bitOf, inWord}
-use Rattle.bits.proofs.Laws.{some-cong, word-cong, bit-full}
+use Rattle.bits.proofs.Laws.{some-cong, some-none, word-cong, word-none, bit-full}
 use Rattle.table.specs.Entry.{held, cell}
 use Rattle.table.specs.Room.{Filled, meeting, baseOf}
+use Rattle.table.specs.LowerBound.{lowerBound}
+use Rattle.table.proofs.LowerBound.{cell-none}
 use Rattle.search.specs.declared.pass.Plan.{Plan}
 use Rattle.search.specs.Pass.{placeable, Rising, Least, tableEnd}
 use Rattle.search.specs.Walk.{ones}
@@ -36,6 +39,21 @@ last-plane rules loads n bound old new mask base high f hq hr m eb eh =
     (f .cells (n .p) (n .q) x y (inl (omega arith)) hq (omega (arith, eh)) hy)
     (m y hy)))))
 
+-- no pass under a bound below the lower bound places all pins
+pub below-lower :
+    (rules loads : List ℕ) (n : Plan) (bound : ℕ) → bound < lowerBound loads (n .p) (n .q) → placeable rules loads n bound ≡ false
+unfolding placeable
+below-lower rules loads n bound h =
+    some-none (n .grid .rows) _ (λ x l. word-none _ (λ y k. rw (cell-none rules loads bound (n .p) (n .q) h x y)))
+
+-- where a larger bound fails, so does a smaller one
+fails-below : (f : ℕ → Bool) → Rising f → (d e : ℕ) → d ≤ e → f e ≡ false → f d ≡ false
+fails-below f rises d e l fails = by-test (f d) refl
+  where
+    by-test : (t : Bool) → f d ≡ t → f d ≡ false
+    by-test true q = absurd (true≢false (sym (rises d e l q) ∙ fails))
+    by-test false q = q
+
 -- the bounds of the bisection: f holds of high, and of nothing below low
 pub record Between (f : ℕ → Bool) (low high : ℕ) : Type 0 where
   pub order : low ≤ high
@@ -43,8 +61,20 @@ pub record Between (f : ℕ → Bool) (low high : ℕ) : Type 0 where
   pub holds : f high ≡ true
   pub below : (e : ℕ) → e < low → f e ≡ false
 
-pub between-start : (f : ℕ → Bool) → f 128 ≡ true → Between f 0 128
-between-start f h = record { order = omega arith; top = le-refl 128; holds = h; below = λ e l. absurd (omega arith) }
+-- f holds of 128 and not of `failed`
+pub between-start :
+    (f : ℕ → Bool) → Rising f → (failed : ℕ) → f failed ≡ false → f 128 ≡ true → Between f (failed + 1) 128
+between-start f rises failed fails h =
+    record {
+      order = by-test (ltb failed 128) refl;
+      top = le-refl 128;
+      holds = h;
+      below = λ e l. fails-below f rises e failed (omega arith) fails;
+    }
+  where
+    by-test : (t : Bool) → ltb failed 128 ≡ t → failed + 1 ≤ 128
+    by-test true e = omega (arith, ltb-true failed 128 e)
+    by-test false e = absurd (true≢false (sym (rises 128 failed (ltb-false failed 128 e) h) ∙ fails))
 
 -- one step: the middle becomes the upper bound where f holds of it, else what is above it the lower
 pub between-more :
@@ -53,16 +83,7 @@ pub between-more :
 between-more f rises low high middle true h g e b =
     record { order = h; top = omega (arith, b .top); holds = sym e; below = b .below }
 between-more f rises low high middle false h g e b =
-    record {
-      order = omega arith;
-      top = b .top;
-      holds = b .holds;
-      below = λ k l. by-test k (f k) refl (omega arith);
-    }
-  where
-    by-test : (k : ℕ) (t : Bool) → f k ≡ t → k ≤ middle → f k ≡ false
-    by-test k true q l = absurd (true≢false (sym (rises k middle l q) ∙ sym e))
-    by-test k false q l = q
+    record { order = omega arith; top = b .top; holds = b .holds; below = λ k l. fails-below f rises k middle (omega arith) (sym e) }
 
 pub between-end : (f : ℕ → Bool) (low high : ℕ) → high ≤ low → Between f low high → Least f high
 between-end f low high h b = record { holds = b .holds; smaller = λ e l. b .below e (omega (arith, b .order)) }

@@ -1,3 +1,4 @@
 pub mod Unions
 pub mod Parts
 pub mod Planes
+pub mod LowerBound

@@ -1,7 +1,7 @@
 -- `search::least` meets its contract. The loop's invariant: all pins can be placed under the upper bound, and under nothing below the
 -- lower. The measure is what lies between.
 -- Assumes nothing.
-use Prim.Native.Nat.{_-_, _+_, _/_}
+use Prim.Native.Nat.{_-_, _+_}
 use mathlib.Core.Path.{_≡_, refl, _∙_}
 use native.Mathlib.Omega.{arith}
 use lib.ListN.{length, drop}
@@ -13,55 +13,64 @@ use Rattle.search.proofs.pass.least.Statement.{statement}
 use Rattle.search.proofs.pass.least.Tie as tie
 
 abbrev Inv-loop : tie.InvT-loop
-Inv-loop work₀ rules loads plan low₀ high₀ work low high =
+Inv-loop work₀ rules loads plan failed low₀ high₀ ahead₀ work low high ahead =
     Between (placeable rules loads plan) low high × (length work ≡ length work₀) × (drop (tableEnd plan) work ≡ drop (tableEnd plan) work₀)
 
 abbrev μ-loop : tie.MeasureT-loop
-μ-loop work₀ rules loads plan low₀ high₀ work low high = high - low
+μ-loop work₀ rules loads plan failed low₀ high₀ ahead₀ work low high ahead = high - low
+
+add-low : tie.Need-add-low Inv-loop μ-loop
+add-low c =
+    let start = c .before .before .before in
+    omega (arith, between-start _ (start .pre .6) _ (start .pre .4) (start .pre .5) .order)
 
 loop-holds : tie.Need-loop-holds Inv-loop μ-loop
-loop-holds c = (between-start _ (c .before .before .before .pre .4), refl, refl)
+loop-holds c =
+    let start = c .before .before .before in
+    (between-start _ (start .pre .6) _ (start .pre .4) (start .pre .5), refl, refl)
 
-sub-middle : tie.Need-sub-middle Inv-loop μ-loop
-sub-middle c = omega (arith, c .before .loop .inv .0 .order)
-
-add-middle : tie.Need-add-middle Inv-loop μ-loop
-add-middle c = omega (arith, c .loop-test .taken, c .before .loop .inv .0 .top)
+next-bound-requires : tie.Need-next-bound-requires Inv-loop μ-loop
+next-bound-requires c κs = c .loop-test .taken
 
 try-bound-requires : tie.Need-try-bound-requires Inv-loop μ-loop
 try-bound-requires c κs =
-    let start = c .before .before .before .before .before .before in
-    (start .pre .0, lies-kept _ _ _ _ _ _ (c .before .before .loop .inv .1) (start .pre .1), start .pre .2, start .pre .3)
+    let start = c .before .before .before .before .before .before .before in
+    (start .pre .0, lies-kept _ _ _ _ _ _ (c .before .before .before .loop .inv .1) (start .pre .1), start .pre .2, start .pre .3)
 
 pick-requires : tie.Need-pick-requires Inv-loop μ-loop
 pick-requires c κs = search needs
 
 add-pick : tie.Need-add-pick Inv-loop μ-loop
-add-pick c = omega (arith, c .before .before .before .before .before .loop-test .taken, c .before .before .before .before .before .before .loop .inv .0 .top)
+add-pick c =
+    let at-next = c .before .before .before .before .before in
+    omega (arith, at-next .next-bound .ensures .1, at-next .before .before .loop .inv .0 .top)
 
 pick-requires-2 : tie.Need-pick-requires-2 Inv-loop μ-loop
 pick-requires-2 c κs = search needs
 
+farther-requires : tie.Need-farther-requires Inv-loop μ-loop
+farther-requires c κs = search needs
+
 loop-less : tie.Need-loop-less Inv-loop μ-loop
 loop-less c =
-    let at-try-bound = c .before .before .before .before in
-    let at-loop-test = at-try-bound .before .before in
-    let at-loop = at-loop-test .before in
-    rw (c .pick2 .ensures, c .before .pick .ensures) (between-falls (at-loop .loop .low) (at-loop .loop .high)
-    (at-loop .loop .low + (at-loop .loop .high - at-loop .loop .low) / 2) (at-try-bound .try-bound .result)
-    (omega (arith, at-loop-test .loop-test .taken)) (omega (arith, at-loop-test .loop-test .taken)))
+    let at-try-bound = c .before .before .before .before .before in
+    let at-next = at-try-bound .before .before in
+    let o = at-next .before .before .loop in
+    rw (c .before .pick2 .ensures, c .before .before .pick .ensures)
+    (between-falls (o .low) (o .high) (at-next .next-bound .result) (at-try-bound .try-bound .result) (at-next .next-bound .ensures .0)
+    (at-next .next-bound .ensures .1))
 
 loop-again : tie.Need-loop-again Inv-loop μ-loop
 loop-again c =
-    let at-try-bound = c .before .before .before .before in
-    let at-loop-test = at-try-bound .before .before in
-    let at-loop = at-loop-test .before in
+    let at-try-bound = c .before .before .before .before .before in
+    let at-next = at-try-bound .before .before in
+    let at-loop = at-next .before .before in
     let start = at-loop .before .before .before .before in
     let a = start .args in
     let o = at-loop .loop in (
-      rw (c .pick2 .ensures, c .before .pick .ensures)
-          (between-more (placeable (a .rules .now) (a .loads .now) (a .plan)) (start .pre .5) (o .low) (o .high) _ _ (omega arith)
-          (omega (arith, at-loop-test .loop-test .taken)) (at-try-bound .try-bound .ensures .answer) (o .inv .0)),
+      rw (c .before .pick2 .ensures, c .before .before .pick .ensures)
+          (between-more (placeable (a .rules .now) (a .loads .now) (a .plan)) (start .pre .6) (o .low) (o .high) _ _
+          (at-next .next-bound .ensures .0) (at-next .next-bound .ensures .1) (at-try-bound .try-bound .ensures .answer) (o .inv .0)),
       at-try-bound .try-bound .ensures .table .kept ∙ o .inv .1,
       at-try-bound .try-bound .ensures .table .behind ∙ o .inv .2,
     )
@@ -80,13 +89,14 @@ least-spec =
     (tie.spec
     Inv-loop
     μ-loop
+    add-low
     loop-holds
-    sub-middle
-    add-middle
+    next-bound-requires
     try-bound-requires
     pick-requires
     add-pick
     pick-requires-2
+    farther-requires
     loop-less
     loop-again
     same-length

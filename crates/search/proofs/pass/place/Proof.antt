@@ -1,29 +1,18 @@
--- `search::place` meets its contract: the passes find the least bound, and the walk over its table gives the columns.
+-- `search::place` meets its contract: no bound below the first one tried places all pins, so that where it does, it is the least.
 -- Assumes nothing.
-use mathlib.Core.Path.{refl, _∙_, sym}
-use Rattle.search.proofs.Cleared.{lies-kept, filled-here}
+use mathlib.Core.Path.{_∙_, sym}
+use native.Mathlib.Omega.{arith}
 use borrow.Author.Needs.{needs}
+use Rattle.search.proofs.Passes.{below-lower}
+use Rattle.search.proofs.Cleared.{lies-kept, filled-here}
 use Rattle.search.proofs.pass.place.Statement.{statement}
 use Rattle.search.proofs.pass.place.Tie as tie
 
+lower-bound-requires : tie.Need-lower-bound-requires
+lower-bound-requires c κs = search needs
+
 try-bound-requires : tie.Need-try-bound-requires
 try-bound-requires c κs = search needs
-
-least-requires : tie.Need-least-requires
-least-requires c κs =
-    let at-try-bound = c .before .before .before .before in
-    let start = at-try-bound .before .before .before .before .before .before in (
-      start .pre .0,
-      lies-kept _ _ _ _ _ _ (at-try-bound .try-bound .ensures .table .kept) (start .pre .1),
-      start .pre .2,
-      start .pre .3,
-      sym
-          (at-try-bound .try-bound .ensures .answer) ∙ c .before .if1 .taken,
-      start .pre .5,
-    )
-
-fill-requires : tie.Need-fill-requires
-fill-requires c κs = search needs
 
 walk-requires : tie.Need-walk-requires
 walk-requires c κs = search needs
@@ -36,36 +25,63 @@ same-length-2 c = search needs
 
 returns : tie.Need-returns
 returns c =
-    let at-fill = c .before .before .before .before .before .before .before in
-    let at-least = at-fill .before .before .before .before in
-    let at-try-bound = at-least .before .before .before .before .before in
+    let at-if = c .before .before .before .before .before in
+    let at-try-bound = at-if .before .before .before in
+    let at-lower = at-try-bound .before .before in
+    let a = at-lower .before .before .before .before .before .args in
+    let tried = at-try-bound .try-bound .ensures in
     record {
-      came = (at-least .least .ensures .least, filled-here _ _ _ _ _ _ _ _ _ (at-fill .fill .ensures), c .before .before .walk .ensures);
-      kept = at-fill .fill .ensures .kept ∙ at-least .least .ensures .kept ∙ at-try-bound .try-bound .ensures .table .kept;
-      behind = at-fill .fill .ensures .behind ∙ at-least .least .ensures .behind ∙ at-try-bound .try-bound .ensures .table .behind;
+      came = (
+        record {
+          holds = sym (tried .answer) ∙ at-if .if1 .taken;
+          smaller = λ e l. below-lower (a .rules .now) (a .loads .now) (a .plan) e (omega (arith, l, at-lower .lower-bound .ensures));
+        },
+        filled-here _ _ _ _ _ _ _ _ _ (tried .table),
+        c .before .before .walk .ensures,
+      );
+      kept = tried .table .kept;
+      behind = tried .table .behind;
     }
+
+place-above-requires : tie.Need-place-above-requires
+place-above-requires c κs =
+    let at-if = c .before .before in
+    let at-try-bound = at-if .before .before .before in
+    let start = at-try-bound .before .before .before .before .before .before .before in
+    let tried = at-try-bound .try-bound .ensures in (
+      start .pre .0,
+      lies-kept _ _ _ _ _ _ (tried .table .kept) (start .pre .1),
+      start .pre .2,
+      start .pre .3,
+      start .pre .4,
+      sym (tried .answer) ∙ at-if .if1 .left,
+      start .pre .5,
+    )
 
 same-length-3 : tie.Need-same-length-3
 same-length-3 c = search needs
 
+same-length-4 : tie.Need-same-length-4
+same-length-4 c = search needs
+
 returns-2 : tie.Need-returns-2
 returns-2 c =
-    record {
-      came = (sym (c .before .before .before .try-bound .ensures .answer) ∙ c .if1 .left, refl);
-      kept = c .before .before .before .try-bound .ensures .table .kept;
-      behind = c .before .before .before .try-bound .ensures .table .behind;
-    }
+    let at-place-above = c .before .before .before .before in
+    let table = at-place-above .before .before .before .before .before .before .try-bound .ensures .table in
+    let placed = at-place-above .place-above .ensures in
+    record { came = placed .came; kept = placed .kept ∙ table .kept; behind = placed .behind ∙ table .behind }
 
 pub place-spec : {M : Type 1} → statement M
 place-spec =
     tie.close
     (tie.spec
+    lower-bound-requires
     try-bound-requires
-    least-requires
-    fill-requires
     walk-requires
     same-length
     same-length-2
     returns
+    place-above-requires
     same-length-3
+    same-length-4
     returns-2)

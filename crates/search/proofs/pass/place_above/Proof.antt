@@ -1,0 +1,72 @@
+-- `search::place_above` meets its contract: the passes find the least bound, and the walk over its table gives the columns.
+-- Assumes nothing.
+use mathlib.Core.Path.{refl, _∙_, sym}
+use Rattle.search.proofs.Cleared.{lies-kept, filled-here}
+use borrow.Author.Needs.{needs}
+use Rattle.search.proofs.pass.place_above.Statement.{statement}
+use Rattle.search.proofs.pass.place_above.Tie as tie
+
+try-bound-requires : tie.Need-try-bound-requires
+try-bound-requires c κs = search needs
+
+least-requires : tie.Need-least-requires
+least-requires c κs =
+    let at-try-bound = c .before .before .before .before in
+    let start = at-try-bound .before .before .before .before .before .before in (
+      start .pre .0,
+      lies-kept _ _ _ _ _ _ (at-try-bound .try-bound .ensures .table .kept) (start .pre .1),
+      start .pre .2,
+      start .pre .3,
+      start .pre .5,
+      sym
+          (at-try-bound .try-bound .ensures .answer) ∙ c .before .if1 .taken,
+      start .pre .6,
+    )
+
+fill-requires : tie.Need-fill-requires
+fill-requires c κs = search needs
+
+walk-requires : tie.Need-walk-requires
+walk-requires c κs = search needs
+
+same-length : tie.Need-same-length
+same-length c = search needs
+
+same-length-2 : tie.Need-same-length-2
+same-length-2 c = search needs
+
+returns : tie.Need-returns
+returns c =
+    let at-fill = c .before .before .before .before .before .before .before in
+    let at-least = at-fill .before .before .before .before in
+    let at-try-bound = at-least .before .before .before .before .before in
+    record {
+      came = (at-least .least .ensures .least, filled-here _ _ _ _ _ _ _ _ _ (at-fill .fill .ensures), c .before .before .walk .ensures);
+      kept = at-fill .fill .ensures .kept ∙ at-least .least .ensures .kept ∙ at-try-bound .try-bound .ensures .table .kept;
+      behind = at-fill .fill .ensures .behind ∙ at-least .least .ensures .behind ∙ at-try-bound .try-bound .ensures .table .behind;
+    }
+
+same-length-3 : tie.Need-same-length-3
+same-length-3 c = search needs
+
+returns-2 : tie.Need-returns-2
+returns-2 c =
+    record {
+      came = (sym (c .before .before .before .try-bound .ensures .answer) ∙ c .if1 .left, refl);
+      kept = c .before .before .before .try-bound .ensures .table .kept;
+      behind = c .before .before .before .try-bound .ensures .table .behind;
+    }
+
+pub place-above-spec : {M : Type 1} → statement M
+place-above-spec =
+    tie.close
+    (tie.spec
+    try-bound-requires
+    least-requires
+    fill-requires
+    walk-requires
+    same-length
+    same-length-2
+    returns
+    same-length-3
+    returns-2)

@@ -1,0 +1,84 @@
+-- `table::lowest` meets its contract: at each return the tests that led there say which pins there are.
+-- Assumes nothing.
+use mathlib.Core.Path.{_∙_, sym, ap, ap₂}
+use Prim.Native.Nat.{ℕ, min, max}
+use borrow.Author.Needs.{needs}
+use Rattle.table.proofs.LowerBound.{lowest-none, lowest-bottoms, lowest-tops, lowest-both}
+use Rattle.table.proofs.bound.lowest.Statement.{statement}
+use Rattle.table.proofs.bound.lowest.Tie as tie
+
+load-requires : tie.Need-load-requires
+load-requires c κs = search needs
+
+larger-requires : tie.Need-larger-requires
+larger-requires c κs = search needs
+
+load-requires-2 : tie.Need-load-requires-2
+load-requires-2 c κs = search needs
+
+larger-requires-2 : tie.Need-larger-requires-2
+larger-requires-2 c κs = search needs
+
+load-requires-3 : tie.Need-load-requires-3
+load-requires-3 c κs = search needs
+
+larger-requires-3 : tie.Need-larger-requires-3
+larger-requires-3 c κs = search needs
+
+returns : tie.Need-returns
+returns c =
+    let a = c .before .before .before .before .before .before .before .before .before .args in
+    lowest-none (a .loads .now) (a .i) (a .j) (a .above) (a .before) (a .diagonal) (c .before .if1 .taken) (c .if2 .taken)
+
+returns-2 : tie.Need-returns-2
+returns-2 c =
+    let at-bottom = c .before .before .before .before in
+    let a = at-bottom .before .before .before .before .before .args in
+    at-bottom .larger2 .ensures
+    ∙ ap (max (a .before)) (at-bottom .before .load2 .ensures)
+    ∙ lowest-bottoms (a .loads .now) (a .i) (a .j) (a .above) (a .before) (a .diagonal) (c .before .if1 .taken) (c .if2 .left)
+
+returns-3 : tie.Need-returns-3
+returns-3 c =
+    let at-top = c .before .before .before .before .before .before in
+    let a = at-top .before .before .before .args in
+    at-top .larger .ensures
+    ∙ ap (max (a .above)) (at-top .before .load .ensures)
+    ∙ lowest-tops (a .loads .now) (a .i) (a .j) (a .above) (a .before) (a .diagonal) (c .before .if1 .left) (c .if3 .taken)
+
+smaller-requires : tie.Need-smaller-requires
+smaller-requires c κs = search needs
+
+smaller-requires-2 : tie.Need-smaller-requires-2
+smaller-requires-2 c κs = search needs
+
+returns-4 : tie.Need-returns-4
+returns-4 c =
+    let at-if3 = c .before .before in
+    let at-both = at-if3 .before .before in
+    let at-bottom = at-both .before .before in
+    let at-top = at-bottom .before .before in
+    let a = at-top .before .before .before .args in
+    c .smaller2 .ensures
+    ∙ ap₂ min (at-top .larger .ensures ∙ ap (max (a .above)) (at-top .before .load .ensures))
+    (c .before .smaller .ensures
+    ∙ ap₂ min (at-bottom .larger2 .ensures ∙ ap (max (a .before)) (at-bottom .before .load2 .ensures))
+    (at-both .larger3 .ensures ∙ ap (max (a .diagonal)) (at-both .before .load3 .ensures)))
+    ∙ lowest-both (a .loads .now) (a .i) (a .j) (a .above) (a .before) (a .diagonal) (at-if3 .before .if1 .left) (at-if3 .if3 .left)
+
+pub lowest-spec : {M : Type 1} → statement M
+lowest-spec =
+    tie.close
+    (tie.spec
+    load-requires
+    larger-requires
+    load-requires-2
+    larger-requires-2
+    load-requires-3
+    larger-requires-3
+    returns
+    returns-2
+    returns-3
+    smaller-requires
+    smaller-requires-2
+    returns-4)
