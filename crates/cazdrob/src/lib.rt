@@ -11,16 +11,10 @@ ghost use Rattle.cazdrob.specs.Host.{checkNumber, HostMeasures, HostSear
 pub extern "C" fn cazdrob_check(s: &[u8]) -> u32
     ensures { λ r. ⌜ r ≡ checkNumber (checkOf (now (s .entry))) ⌝ }
 {
-    wide(number_of(sheet::check(s)))
-}
-
-// The number of the check's answer.
-fn number_of(checked: Checked) -> u8
-    ensures { λ r. ⌜ r ≡ checkNumber checked ⌝ }
-{
+    let checked = sheet::check(s);
     match checked {
         Checked::Sound => 0,
-        Checked::Refused(why) => sheet::number_of(why),
+        Checked::Refused(why) => wide(sheet::number_of(why)),
     }
 }
 

@@ -1,3 +1,5 @@
+-- `cazdrob_cells` meets its contract: the shape's cells.
+-- Assumes nothing.
 use borrow.Author.Needs.{needs}
 use mathlib.Core.Path.{ap}
 use Rattle.sheet.specs.declared.Shape.{Shape}

@@ -1,3 +1,5 @@
+-- `cazdrob_measure` meets its contract: the measurement's answer, in numbers.
+-- Assumes nothing.
 use borrow.Author.Needs.{needs}
 use mathlib.Core.Path.{_∙_, ap}
 use Rattle.measure.specs.Answer.{numberOf, densityOf}

@@ -1,3 +1,5 @@
+-- `cazdrob_search` meets its contract: the search's answer, in numbers, and its own promise on the buffers.
+-- Assumes nothing.
 use borrow.Author.Needs.{needs}
 use mathlib.Core.Path.{_∙_, ap, refl}
 use Rattle.search.specs.Answer.{numberOf, densityOf}
