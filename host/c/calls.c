@@ -1,0 +1,144 @@
+/*
+ * Tests the C functions: sheet A and others, with every byte around the lent buffers held to what it was. Each number that a function
+ * can return is seen. Names each case that fails; the last line is 'N passed, M failed'.
+ */
+#include <cazdrob.h>
+#include <stdio.h>
+#include <string.h>
+
+static unsigned passed, failed;
+
+#define EXPECT(condition) expect((condition), #condition, __LINE__)
+static void expect(int holds, const char *condition, int line) {
+    if (holds) {
+        passed++;
+    } else {
+        failed++;
+        printf("FAILED: calls.c:%d: %s\n", line, condition);
+    }
+}
+
+static const uint8_t A[60] = {
+    1, 0, 0, 0,   7, 0, 0, 0, 0, 0, 0, 0,   /* T 1 */
+    2, 0, 1, 255, 7, 0, 0, 0, 0, 0, 0, 0,   /* T 2 */
+    2, 0, 0, 0,   7, 0, 0, 0, 0, 0, 0, 0,   /* B 1 */
+    1, 0, 1, 255, 7, 0, 0, 0, 0, 0, 0, 0,   /* B 2 */
+    0, 0, 2, 0,   24, 0, 2, 0, 3, 0, 'C', 'P',
+};
+static const uint8_t EMPTY[12] = {0, 0, 0, 0, 0, 0, 0, 0, 1, 0, 'C', 'P'};
+
+/* The lent buffers are the middle of longer ones that are full of these. */
+enum { FRONT = 16, COLUMNS = 10, CELLS = 200 };
+static const uint8_t COLUMN = 0xa5;
+static const uint16_t CELL = 0x5aa5;
+static const uint32_t DENSITY = 0xdeadbeef;
+
+struct lent {
+    uint32_t number, density;
+    uint8_t columns[FRONT + COLUMNS + FRONT];
+    uint16_t work[FRONT + CELLS + FRONT];
+    int sheet_kept;
+};
+
+static struct lent search(const uint8_t *sheet, size_t len, size_t columns, size_t cells) {
+    struct lent l;
+    uint8_t before[64];
+    memcpy(before, sheet, len);
+    memset(l.columns, COLUMN, sizeof l.columns);
+    for (size_t i = 0; i < FRONT + CELLS + FRONT; i++) l.work[i] = CELL;
+    l.density = DENSITY;
+    l.number = cazdrob_search(sheet, len, l.columns + FRONT, columns, l.work + FRONT, cells, &l.density);
+    l.sheet_kept = memcmp(before, sheet, len) == 0;
+    return l;
+}
+
+/* whether the column buffer begins with these and is unchanged everywhere else */
+static int columns_are(const struct lent *l, const uint8_t *list, size_t count) {
+    for (size_t i = 0; i < sizeof l->columns; i++) {
+        int in_list = i >= FRONT && i < FRONT + count;
+        if (l->columns[i] != (in_list ? list[i - FRONT] : COLUMN)) return 0;
+    }
+    return 1;
+}
+
+/* whether so many of the first work cells are 0 and the others unchanged */
+static int zeros_are(const struct lent *l, size_t count) {
+    for (size_t i = 0; i < FRONT + CELLS + FRONT; i++) {
+        int cleared = i >= FRONT && i < FRONT + count;
+        if (l->work[i] != (cleared ? 0 : CELL)) return 0;
+    }
+    return 1;
+}
+
+static int found(struct lent l, uint32_t density, const uint8_t *list, size_t count, size_t cells) {
+    return l.number == CAZDROB_OK && l.density == density && columns_are(&l, list, count) && zeros_are(&l, cells) && l.sheet_kept;
+}
+
+static int refused(struct lent l, uint32_t number, size_t cleared) {
+    return l.number == number && l.density == 0 && columns_are(&l, NULL, 0) && zeros_are(&l, cleared) && l.sheet_kept;
+}
+
+/* sheet A with one byte changed; every function that reads it gives the number */
+static int refuses(size_t at, uint8_t byte, uint32_t number) {
+    uint8_t sheet[60];
+    static const uint8_t list[4] = {2, 3, 1, 2};
+    uint32_t density = DENSITY;
+    memcpy(sheet, A, sizeof A);
+    sheet[at] = byte;
+    return cazdrob_check(sheet, 60) == number && cazdrob_cells(sheet, 60) == 0 &&
+           cazdrob_measure(sheet, 60, list, 4, &density) == number && density == 0 && refused(search(sheet, 60, 4, 144), number, 0);
+}
+
+static int measures(const uint8_t *list, size_t len, uint32_t number, uint32_t wanted) {
+    uint32_t density[3] = {DENSITY, DENSITY, DENSITY};
+    return cazdrob_measure(A, 60, list, len, &density[1]) == number && density[1] == wanted && density[0] == DENSITY &&
+           density[2] == DENSITY;
+}
+
+int main(void) {
+    static const uint8_t best[4] = {2, 3, 1, 2}, leftmost[4] = {1, 2, 1, 2}, rival[4] = {1, 2, 2, 3};
+    static const uint8_t shared[4] = {2, 2, 1, 3}, zero[4] = {2, 2, 0, 1}, above[4] = {2, 65, 1, 2};
+    uint8_t sheet[60];
+
+    EXPECT(cazdrob_check(A, 60) == 0);
+    EXPECT(cazdrob_cells(A, 60) == 144);
+    EXPECT(found(search(A, 60, 4, 144), 1, best, 4, 144));
+    EXPECT(found(search(A, 60, 10, 200), 1, best, 4, 144));
+    EXPECT(cazdrob_check(EMPTY, 12) == 0);
+    EXPECT(cazdrob_cells(EMPTY, 12) == 4);
+    EXPECT(found(search(EMPTY, 12, 0, 4), 0, NULL, 0, 4));
+
+    EXPECT(cazdrob_check(A, 0) == CAZDROB_SHORT);
+    EXPECT(cazdrob_check(A, 11) == CAZDROB_SHORT);
+    EXPECT(cazdrob_cells(A, 11) == 0);
+    EXPECT(refused(search(A, 11, 4, 144), CAZDROB_SHORT, 0));
+    EXPECT(refuses(59, 'Q', CAZDROB_MARK));
+    EXPECT(refuses(56, 0, CAZDROB_LENGTH));
+    EXPECT(refuses(56, 65, CAZDROB_LENGTH));
+    EXPECT(refuses(50, 65, CAZDROB_COUNT));
+    EXPECT(refuses(52, 23, CAZDROB_LAYOUT));
+    EXPECT(refuses(24, 0, CAZDROB_NET));
+    EXPECT(refuses(3, 1, CAZDROB_DISTANCE));
+    EXPECT(refuses(4, 15, CAZDROB_BEYOND));
+
+    EXPECT(refused(search(A, 60, 3, 144), CAZDROB_COLUMNS, 0));
+    EXPECT(refused(search(A, 60, 3, 143), CAZDROB_COLUMNS, 0));
+    EXPECT(refused(search(A, 60, 4, 143), CAZDROB_CELLS, 0));
+    EXPECT(refused(search(A, 60, 4, 0), CAZDROB_CELLS, 0));
+    memcpy(sheet, A, sizeof A);
+    sheet[28] = 0; /* B 1 has the empty set */
+    EXPECT(cazdrob_check(sheet, 60) == 0);
+    EXPECT(refused(search(sheet, 60, 10, 200), CAZDROB_NO_ASSIGNMENT, 144));
+
+    EXPECT(measures(best, 4, 0, 1));
+    EXPECT(measures(leftmost, 4, 0, 2));
+    EXPECT(measures(rival, 4, 0, 1));
+    EXPECT(measures(best, 3, CAZDROB_LIST_LENGTH, 0));
+    EXPECT(measures(best, 0, CAZDROB_LIST_LENGTH, 0));
+    EXPECT(measures(zero, 4, CAZDROB_NOT_ALLOWED, 0));
+    EXPECT(measures(above, 4, CAZDROB_NOT_ALLOWED, 0));
+    EXPECT(measures(shared, 4, CAZDROB_OUT_OF_RANGE, 0));
+
+    printf("%u passed, %u failed\n", passed, failed);
+    return failed > 0;
+}
