@@ -1,0 +1,242 @@
+//! The best pin assignment of a routing channel, on the proved library `libcazdrob.a`.
+//!
+//! A sheet describes the channel: its terminals in their fixed orders, the columns that each may take, the distances that neighbours
+//! keep. `docs/FORMAT.md` of the repository has the rules. Every call has an answer for every content and length of what it is lent.
+//!
+//! Sheet A: three columns, the nets 1, 2 on top and 2, 1 at the bottom.
+//!
+//! ```
+//! let sheet = [
+//!     1, 0, 0, 0, 7, 0, 0, 0, 0, 0, 0, 0, // T 1: net 1, first of its side, columns 1, 2, 3
+//!     2, 0, 1, 255, 7, 0, 0, 0, 0, 0, 0, 0, // T 2: net 2, distance 1 to 255
+//!     2, 0, 0, 0, 7, 0, 0, 0, 0, 0, 0, 0, // B 1: net 2
+//!     1, 0, 1, 255, 7, 0, 0, 0, 0, 0, 0, 0, // B 2: net 1
+//!     0, 0, 2, 0, 24, 0, 2, 0, 3, 0, b'C', b'P', // top at 0, p 2, bottom at 24, q 2, L 3
+//! ];
+//! let mut searcher = cazdrob::Searcher::new();
+//! let best = searcher.assign(&sheet)?;
+//! assert_eq!(best.density, 1);
+//! assert_eq!(best.columns, [2, 3, 1, 2]); // top terminals in order, then bottom
+//!
+//! // the same on lent buffers
+//! let mut columns = [0; 4];
+//! let mut work = vec![0; cazdrob::cells(&sheet)];
+//! assert_eq!(work.len(), 144);
+//! assert_eq!(cazdrob::search(&sheet, &mut columns, &mut work), Ok(1));
+//! assert_eq!(columns, [2, 3, 1, 2]);
+//!
+//! assert_eq!(cazdrob::measure(&sheet, &[1, 2, 1, 2]), Ok(2));
+//! assert_eq!(cazdrob::measure(&sheet, &[2, 2, 1, 3]), Err(cazdrob::Refusal::OutOfRange));
+//! # Ok::<(), cazdrob::Refusal>(())
+//! ```
+#![warn(missing_docs)]
+
+use std::error::Error;
+use std::fmt;
+
+/// The functions of `include/cazdrob.h`.
+mod sys {
+    extern "C" {
+        pub fn cazdrob_check(sheet: *const u8, sheet_len: usize) -> u32;
+        pub fn cazdrob_cells(sheet: *const u8, sheet_len: usize) -> usize;
+        pub fn cazdrob_measure(
+            sheet: *const u8,
+            sheet_len: usize,
+            columns: *const u8,
+            columns_len: usize,
+            density: *mut u32,
+        ) -> u32;
+        pub fn cazdrob_search(
+            sheet: *const u8,
+            sheet_len: usize,
+            columns: *mut u8,
+            columns_len: usize,
+            work: *mut u16,
+            work_len: usize,
+            density: *mut u32,
+        ) -> u32;
+    }
+}
+
+// All that the functions ask of their pointers holds of slices and references: never null, aligned, that many elements, at most
+// isize::MAX bytes, and nothing overlaps what is borrowed mutably.
+
+/// Whether the sheet is sound: `Ok`, or one of the refusals 1 to 8.
+pub fn check(sheet: &[u8]) -> Result<(), Refusal> {
+    // SAFETY: the pointer and the length are a slice's.
+    answer(unsafe { sys::cazdrob_check(sheet.as_ptr(), sheet.len()) })
+}
+
+/// The work cells that a search of the sheet needs, (p+1)(q+1)(L+1)²; 0 for a refused sheet.
+pub fn cells(sheet: &[u8]) -> usize {
+    // SAFETY: the pointer and the length are a slice's.
+    unsafe { sys::cazdrob_cells(sheet.as_ptr(), sheet.len()) }
+}
+
+/// The density of a column list: the columns of the top terminals in order, then those of the bottom terminals. Refused with 1 to 8,
+/// 12, 13 or 14.
+pub fn measure(sheet: &[u8], columns: &[u8]) -> Result<u32, Refusal> {
+    let mut density = 0;
+    // SAFETY: the pointers and lengths are those of slices, and `density` is borrowed by nothing else.
+    let number = unsafe {
+        sys::cazdrob_measure(
+            sheet.as_ptr(),
+            sheet.len(),
+            columns.as_ptr(),
+            columns.len(),
+            &mut density,
+        )
+    };
+    answer(number).map(|()| density)
+}
+
+/// Finds the best assignment on lent buffers and gives its density. Refused with 1 to 11.
+///
+/// With an assignment the first p+q bytes of `columns` are its columns. With an assignment, and with
+/// [`NoAssignment`](Refusal::NoAssignment), the first [`cells`] of `work` are 0. Everything else is left as it was, and what the buffers
+/// held before plays no part.
+pub fn search(sheet: &[u8], columns: &mut [u8], work: &mut [u16]) -> Result<u32, Refusal> {
+    let mut density = 0;
+    // SAFETY: the pointers and lengths are those of slices; `columns`, `work` and `density` are borrowed mutably and overlap nothing.
+    let number = unsafe {
+        sys::cazdrob_search(
+            sheet.as_ptr(),
+            sheet.len(),
+            columns.as_mut_ptr(),
+            columns.len(),
+            work.as_mut_ptr(),
+            work.len(),
+            &mut density,
+        )
+    };
+    answer(number).map(|()| density)
+}
+
+/// An assignment and its density.
+#[derive(Debug, Clone, PartialEq, Eq)]
+pub struct Assignment {
+    /// The greatest number of nets that cross a column.
+    pub density: u32,
+    /// The columns of the top terminals in order, then those of the bottom terminals.
+    pub columns: Vec<u8>,
+}
+
+/// Searches one sheet after another on work cells of its own, which grow only where a sheet needs more of them.
+#[derive(Debug, Clone, Default)]
+pub struct Searcher {
+    work: Vec<u16>,
+}
+
+impl Searcher {
+    /// A searcher with no work cells yet.
+    pub fn new() -> Self {
+        Self::default()
+    }
+
+    /// As [`search`], on the searcher's work cells: never refused with [`Cells`](Refusal::Cells).
+    pub fn search(&mut self, sheet: &[u8], columns: &mut [u8]) -> Result<u32, Refusal> {
+        let needed = cells(sheet);
+        if self.work.len() < needed {
+            // the old cells are freed first; their content plays no part
+            self.work = Vec::new();
+            self.work = vec![0; needed];
+        }
+        search(sheet, columns, &mut self.work)
+    }
+
+    /// The best assignment of the sheet. Refused with 1 to 8 or 11.
+    pub fn assign(&mut self, sheet: &[u8]) -> Result<Assignment, Refusal> {
+        check(sheet)?;
+        // a sound sheet has 12 bytes for each terminal and the 12 of its trailer
+        let mut columns = vec![0; sheet.len() / 12 - 1];
+        let density = self.search(sheet, &mut columns)?;
+        Ok(Assignment { density, columns })
+    }
+}
+
+/// Why a call was refused; the value is the number of the refusal.
+#[derive(Debug, Clone, Copy, PartialEq, Eq)]
+#[repr(u32)]
+pub enum Refusal {
+    /// 1: the sheet is shorter than 12 bytes.
+    Short = 1,
+    /// 2: its last two bytes are not the mark.
+    Mark,
+    /// 3: L is 0 or above 64.
+    Length,
+    /// 4: p or q is above 64.
+    Count,
+    /// 5: the sheet's length or the sections' offsets break the rule.
+    Layout,
+    /// 6: a net is 0.
+    Net,
+    /// 7: a distance pair breaks its rule.
+    Distance,
+    /// 8: a set names a column above L.
+    Beyond,
+    /// 9: the column buffer is too short.
+    Columns,
+    /// 10: the work buffer is too short.
+    Cells,
+    /// 11: no assignment exists.
+    NoAssignment,
+    /// 12: the list to measure is not p+q long.
+    ListLength,
+    /// 13: a listed column is not in its terminal's set.
+    NotAllowed,
+    /// 14: a distance is out of range.
+    OutOfRange,
+}
+
+impl Refusal {
+    /// The number of the refusal, 1 to 14.
+    pub fn number(self) -> u32 {
+        self as u32
+    }
+}
+
+impl fmt::Display for Refusal {
+    fn fmt(&self, f: &mut fmt::Formatter<'_>) -> fmt::Result {
+        let why = match self {
+            Refusal::Short => "the sheet is shorter than 12 bytes",
+            Refusal::Mark => "the last two bytes differ from the mark",
+            Refusal::Length => "L is 0 or above 64",
+            Refusal::Count => "p or q is above 64",
+            Refusal::Layout => "the sheet's length or the sections' offsets differ from the rule",
+            Refusal::Net => "a net is 0",
+            Refusal::Distance => "a distance pair breaks its rule",
+            Refusal::Beyond => "a set names a column above L",
+            Refusal::Columns => "the column buffer is too short",
+            Refusal::Cells => "the work buffer is too short",
+            Refusal::NoAssignment => "no assignment exists",
+            Refusal::ListLength => "the list to measure is not p+q long",
+            Refusal::NotAllowed => "a listed column is not in its terminal's set",
+            Refusal::OutOfRange => "a distance is out of range",
+        };
+        write!(f, "refused {}: {why}", self.number())
+    }
+}
+
+impl Error for Refusal {}
+
+/// A returned number as a result.
+fn answer(number: u32) -> Result<(), Refusal> {
+    Err(match number {
+        0 => return Ok(()),
+        1 => Refusal::Short,
+        2 => Refusal::Mark,
+        3 => Refusal::Length,
+        4 => Refusal::Count,
+        5 => Refusal::Layout,
+        6 => Refusal::Net,
+        7 => Refusal::Distance,
+        8 => Refusal::Beyond,
+        9 => Refusal::Columns,
+        10 => Refusal::Cells,
+        11 => Refusal::NoAssignment,
+        12 => Refusal::ListLength,
+        13 => Refusal::NotAllowed,
+        14 => Refusal::OutOfRange,
+        _ => unreachable!("the library returns 0 to 14, not {number}"),
+    })
+}
