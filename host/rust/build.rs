@@ -7,8 +7,7 @@ fn main() {
     println!("cargo:rerun-if-env-changed=CAZDROB_LIB_DIR");
     let folder = match env::var_os("CAZDROB_LIB_DIR") {
         Some(folder) => PathBuf::from(folder),
-        None => PathBuf::from(env::var_os("CARGO_MANIFEST_DIR").expect("cargo sets it"))
-            .join("../../target/staticlib"),
+        None => PathBuf::from(env::var_os("CARGO_MANIFEST_DIR").expect("cargo sets it")).join("../../target/staticlib"),
     };
     let archive = folder.join("libcazdrob.a");
     if !archive.is_file() {

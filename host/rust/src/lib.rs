@@ -39,13 +39,7 @@ mod sys {
     extern "C" {
         pub fn cazdrob_check(sheet: *const u8, sheet_len: usize) -> u32;
         pub fn cazdrob_cells(sheet: *const u8, sheet_len: usize) -> usize;
-        pub fn cazdrob_measure(
-            sheet: *const u8,
-            sheet_len: usize,
-            columns: *const u8,
-            columns_len: usize,
-            density: *mut u32,
-        ) -> u32;
+        pub fn cazdrob_measure(sheet: *const u8, sheet_len: usize, columns: *const u8, columns_len: usize, density: *mut u32) -> u32;
         pub fn cazdrob_search(
             sheet: *const u8,
             sheet_len: usize,
@@ -78,15 +72,7 @@ pub fn cells(sheet: &[u8]) -> usize {
 pub fn measure(sheet: &[u8], columns: &[u8]) -> Result<u32, Refusal> {
     let mut density = 0;
     // SAFETY: the pointers and lengths are those of slices, and `density` is borrowed by nothing else.
-    let number = unsafe {
-        sys::cazdrob_measure(
-            sheet.as_ptr(),
-            sheet.len(),
-            columns.as_ptr(),
-            columns.len(),
-            &mut density,
-        )
-    };
+    let number = unsafe { sys::cazdrob_measure(sheet.as_ptr(), sheet.len(), columns.as_ptr(), columns.len(), &mut density) };
     answer(number).map(|()| density)
 }
 
@@ -99,15 +85,7 @@ pub fn search(sheet: &[u8], columns: &mut [u8], work: &mut [u16]) -> Result<u32,
     let mut density = 0;
     // SAFETY: the pointers and lengths are those of slices; `columns`, `work` and `density` are borrowed mutably and overlap nothing.
     let number = unsafe {
-        sys::cazdrob_search(
-            sheet.as_ptr(),
-            sheet.len(),
-            columns.as_mut_ptr(),
-            columns.len(),
-            work.as_mut_ptr(),
-            work.len(),
-            &mut density,
-        )
+        sys::cazdrob_search(sheet.as_ptr(), sheet.len(), columns.as_mut_ptr(), columns.len(), work.as_mut_ptr(), work.len(), &mut density)
     };
     answer(number).map(|()| density)
 }

@@ -1,0 +1,219 @@
+//! Calls of the C functions on buffers out of the middle of longer ones full of garbage, each held to what the reference says, to the
+//! last byte and cell of the longer buffers.
+use crate::draw::Draw;
+use crate::reference::{read, Channel};
+use cazdrob::Searcher;
+
+extern "C" {
+    fn cazdrob_check(sheet: *const u8, sheet_len: usize) -> u32;
+    fn cazdrob_cells(sheet: *const u8, sheet_len: usize) -> usize;
+    fn cazdrob_measure(sheet: *const u8, sheet_len: usize, columns: *const u8, columns_len: usize, density: *mut u32) -> u32;
+    fn cazdrob_search(
+        sheet: *const u8,
+        sheet_len: usize,
+        columns: *mut u8,
+        columns_len: usize,
+        work: *mut u16,
+        work_len: usize,
+        density: *mut u32,
+    ) -> u32;
+}
+
+/// Elements to lend, with others in front of them and behind them.
+#[derive(Clone)]
+struct Lent<T> {
+    all: Vec<T>,
+    front: usize,
+    len: usize,
+}
+
+impl<T: Copy + PartialEq + std::fmt::Debug> Lent<T> {
+    fn around(draw: &mut Draw, elements: &[T], garbage: fn(u64) -> T) -> Self {
+        let (front, back) = (draw.between(1, 24), draw.between(1, 24));
+        let mut all: Vec<T> = (0..front).map(|_| garbage(draw.word())).collect();
+        all.extend(elements);
+        all.extend((0..back).map(|_| garbage(draw.word())));
+        Lent { all, front, len: elements.len() }
+    }
+
+    fn garbage(draw: &mut Draw, len: usize, garbage: fn(u64) -> T) -> Self {
+        let elements: Vec<T> = (0..len).map(|_| garbage(draw.word())).collect();
+        Self::around(draw, &elements, garbage)
+    }
+
+    fn lend(&mut self) -> &mut [T] {
+        &mut self.all[self.front..self.front + self.len]
+    }
+
+    /// Holds the whole to what it was before, but for its first lent elements, which are now these.
+    fn hold(&self, before: &Self, first: impl ExactSizeIterator<Item = T>, what: &str) {
+        let end = self.front + first.len();
+        assert!(self.all[self.front..end].iter().copied().eq(first), "{what}: the first elements");
+        assert!(self.all[..self.front] == before.all[..self.front], "{what}: in front of the buffer");
+        assert!(self.all[end..] == before.all[end..], "{what}: behind what is written");
+    }
+}
+
+/// How often each number was returned, by function.
+#[derive(Default)]
+pub struct Seen {
+    pub check: [u32; 15],
+    pub measure: [u32; 15],
+    pub search: [u32; 15],
+}
+
+impl Seen {
+    pub fn print(&self, test: &str) {
+        println!("{test}: times that each number 0 to 14 was returned");
+        println!("  check   {:?}", self.check);
+        println!("  measure {:?}", self.measure);
+        println!("  search  {:?}", self.search);
+    }
+}
+
+/// Holds the sheet and its answers for the calls to come.
+pub struct Held {
+    pub sheet: Vec<u8>,
+    pub read: Result<Channel, u32>,
+    best: Option<Option<(u32, Vec<u8>)>>,
+    searcher: Searcher,
+}
+
+impl Held {
+    pub fn new(sheet: Vec<u8>) -> Self {
+        let read = read(&sheet);
+        Held { sheet, read, best: None, searcher: Searcher::new() }
+    }
+
+    /// With a searcher that has been used.
+    pub fn with(sheet: Vec<u8>, searcher: Searcher) -> Self {
+        Held { searcher, ..Held::new(sheet) }
+    }
+
+    pub fn searcher(self) -> Searcher {
+        self.searcher
+    }
+
+    /// The best assignment by the reference: every assignment is tried where that is quick, else it is the dynamic programme's.
+    pub fn best(&mut self) -> &Option<(u32, Vec<u8>)> {
+        let channel = self.read.as_ref().expect("a sound sheet");
+        self.best.get_or_insert_with(|| {
+            let few = channel.length <= 6 && channel.terminals() <= 8;
+            if few {
+                channel.best_of_all()
+            } else {
+                channel.best()
+            }
+        })
+    }
+
+    pub fn terminals(&self) -> usize {
+        self.read.as_ref().map_or(0, Channel::terminals)
+    }
+
+    pub fn cells(&self) -> usize {
+        self.read.as_ref().map_or(0, Channel::cells)
+    }
+
+    /// Holds the check and the number of cells.
+    pub fn check(&self, draw: &mut Draw, seen: &mut Seen) {
+        let mut lent = Lent::around(draw, &self.sheet, |w| w as u8);
+        let before = lent.clone();
+        let sheet = lent.lend();
+        let wanted = *self.read.as_ref().err().unwrap_or(&0);
+        // SAFETY: the pointer and the length are a slice's, here and below.
+        let (number, cells) = unsafe { (cazdrob_check(sheet.as_ptr(), sheet.len()), cazdrob_cells(sheet.as_ptr(), sheet.len())) };
+        assert_eq!(number, wanted, "check of {:?}", self.sheet);
+        assert_eq!(cells, self.cells(), "cells of {:?}", self.sheet);
+        assert_eq!(cazdrob::check(sheet).map_err(|r| r.number()).err().unwrap_or(0), wanted);
+        assert_eq!(cazdrob::cells(sheet), cells);
+        lent.hold(&before, [].into_iter(), "the sheet");
+        seen.check[number as usize] += 1;
+    }
+
+    /// Holds the measurement of a list.
+    pub fn measure(&self, draw: &mut Draw, list: &[u8], seen: &mut Seen) {
+        let wanted = self.read.as_ref().map_err(|number| *number).and_then(|channel| channel.measure(list));
+        let mut sheet = Lent::around(draw, &self.sheet, |w| w as u8);
+        let mut columns = Lent::around(draw, list, |w| w as u8);
+        let mut density = Lent::garbage(draw, 1, |w| w as u32);
+        let before = (sheet.clone(), columns.clone(), density.clone());
+        let number = {
+            let (sheet, columns, density) = (sheet.lend(), columns.lend(), density.lend());
+            unsafe { cazdrob_measure(sheet.as_ptr(), sheet.len(), columns.as_ptr(), columns.len(), density.as_mut_ptr()) }
+        };
+        let got = if number == 0 { Ok(density.lend()[0]) } else { Err(number) };
+        assert_eq!(got, wanted, "measurement of {list:?} on {:?}", self.sheet);
+        assert_eq!(cazdrob::measure(sheet.lend(), columns.lend()).map_err(|r| r.number()), wanted);
+        sheet.hold(&before.0, [].into_iter(), "the sheet");
+        columns.hold(&before.1, [].into_iter(), "the list");
+        density.hold(&before.2, [wanted.unwrap_or(0)].into_iter(), "the density");
+        seen.measure[number as usize] += 1;
+    }
+
+    /// Holds a search on buffers of these lengths.
+    pub fn search(&mut self, draw: &mut Draw, columns_len: usize, work_len: usize, seen: &mut Seen) {
+        let (terminals, cells) = (self.terminals(), self.cells());
+        let wanted: Result<(u32, Vec<u8>), u32> = match self.read {
+            Err(number) => Err(number),
+            Ok(_) if columns_len < terminals => Err(9),
+            Ok(_) if work_len < cells => Err(10),
+            Ok(_) => self.best().clone().ok_or(11),
+        };
+        let cleared = if matches!(wanted, Ok(_) | Err(11)) { cells } else { 0 };
+        let (wanted_density, list) = wanted.clone().unwrap_or((0, Vec::new()));
+        let wanted_number = wanted.err().unwrap_or(0);
+
+        let mut sheet = Lent::around(draw, &self.sheet, |w| w as u8);
+        let mut columns = Lent::garbage(draw, columns_len, |w| w as u8);
+        let mut work = Lent::garbage(draw, work_len, |w| w as u16);
+        let mut density = Lent::garbage(draw, 1, |w| w as u32);
+        let before = (sheet.clone(), columns.clone(), work.clone(), density.clone());
+        let number = {
+            let (sheet, columns, work, density) = (sheet.lend(), columns.lend(), work.lend(), density.lend());
+            unsafe {
+                cazdrob_search(
+                    sheet.as_ptr(),
+                    sheet.len(),
+                    columns.as_mut_ptr(),
+                    columns.len(),
+                    work.as_mut_ptr(),
+                    work.len(),
+                    density.as_mut_ptr(),
+                )
+            }
+        };
+        let what = || format!("search of {:?} on {columns_len} bytes and {work_len} cells", self.sheet);
+        assert_eq!((number, density.lend()[0]), (wanted_number, wanted_density), "{}", what());
+        assert_eq!(columns.lend()[..list.len()], list, "{}", what());
+        sheet.hold(&before.0, [].into_iter(), "the sheet");
+        columns.hold(&before.1, list.iter().copied(), "the columns");
+        work.hold(&before.2, vec![0; cleared].into_iter(), "the work cells");
+        density.hold(&before.3, [wanted_density].into_iter(), "the density");
+        seen.search[number as usize] += 1;
+    }
+
+    /// Holds the wrapper's search to the same on its own and on the searcher's cells.
+    pub fn wrapped(&mut self, draw: &mut Draw) {
+        let wanted = match self.read {
+            Err(number) => Err(number),
+            Ok(_) => self.best().clone().ok_or(11),
+        };
+        let wanted_density = wanted.clone().map(|(density, _)| density);
+        let columns_len = self.terminals() + draw.between(0, 3);
+        let columns = Lent::garbage(draw, columns_len, |w| w as u8);
+        let list = wanted.as_ref().map_or(&[][..], |(_, list)| list);
+
+        let mut lent = columns.clone();
+        let mut work = vec![draw.word() as u16; self.cells()];
+        assert_eq!(cazdrob::search(&self.sheet, lent.lend(), &mut work).map_err(|r| r.number()), wanted_density);
+        lent.hold(&columns, list.iter().copied(), "the wrapper's columns");
+        assert!(work.iter().all(|cell| *cell == 0));
+
+        let mut lent = columns.clone();
+        assert_eq!(self.searcher.search(&self.sheet, lent.lend()).map_err(|r| r.number()), wanted_density);
+        lent.hold(&columns, list.iter().copied(), "the searcher's columns");
+        let assigned = self.searcher.assign(&self.sheet).map(|a| (a.density, a.columns)).map_err(|r| r.number());
+        assert_eq!(assigned, wanted);
+    }
+}

@@ -1,0 +1,13 @@
+//! Holds every call of the library to a separately written implementation of the rules, `reference`, on drawn sheets: sound and damaged,
+//! small and large, with every buffer lent out of the middle of a longer one full of garbage. The draws are fixed by their seeds.
+mod buffers;
+mod damaged;
+mod draw;
+mod known;
+mod lent;
+mod lists;
+mod pairs;
+mod reference;
+mod sound;
+mod threads;
+mod wrapper;

@@ -1,0 +1,366 @@
+//! The rules in plain Rust: reading and refusing a sheet, the density of a column list, the best assignment. The dynamic programme is that
+//! of "Optimal channel pin assignment", section 5.1, with densities by definition. Nothing is shared with the library.
+
+#[derive(Debug, Clone, PartialEq, Eq)]
+pub struct Terminal {
+    pub net: u16,
+    pub least: u8,
+    pub greatest: u8,
+    pub set: u64,
+}
+
+#[derive(Debug, Clone, PartialEq, Eq)]
+pub struct Channel {
+    pub length: usize,
+    pub top: Vec<Terminal>,
+    pub bottom: Vec<Terminal>,
+}
+
+fn u16_at(bytes: &[u8], at: usize) -> usize {
+    usize::from(bytes[at]) + 256 * usize::from(bytes[at + 1])
+}
+
+/// The sheet as read, or the number of its refusal, 1 to 8.
+pub fn read(sheet: &[u8]) -> Result<Channel, u32> {
+    if sheet.len() < 12 {
+        return Err(1);
+    }
+    let trailer = sheet.len() - 12;
+    if &sheet[trailer + 10..] != b"CP" {
+        return Err(2);
+    }
+    let [top_at, p, bottom_at, q, length] = [0, 2, 4, 6, 8].map(|field| u16_at(sheet, trailer + field));
+    if length == 0 || length > 64 {
+        return Err(3);
+    }
+    if p > 64 || q > 64 {
+        return Err(4);
+    }
+    let top_first = top_at == 0 && bottom_at == 12 * p;
+    let bottom_first = bottom_at == 0 && top_at == 12 * q;
+    if sheet.len() != 12 * (p + q) + 12 || !(top_first || bottom_first) {
+        return Err(5);
+    }
+    let side = |start: usize, count: usize| -> Result<Vec<Terminal>, u32> {
+        let mut terminals = Vec::new();
+        for place in 0..count {
+            let record = &sheet[start + 12 * place..start + 12 * place + 12];
+            let terminal = Terminal {
+                net: u16_at(record, 0) as u16,
+                least: record[2],
+                greatest: record[3],
+                set: u64::from_le_bytes(record[4..12].try_into().unwrap()),
+            };
+            if terminal.net == 0 {
+                return Err(6);
+            }
+            let pair_is_right = if place == 0 {
+                terminal.least == 0 && terminal.greatest == 0
+            } else {
+                1 <= terminal.least && terminal.least <= terminal.greatest
+            };
+            if !pair_is_right {
+                return Err(7);
+            }
+            if (length + 1..=64).any(|column| names(&terminal, column as u8)) {
+                return Err(8);
+            }
+            terminals.push(terminal);
+        }
+        Ok(terminals)
+    };
+    let top = side(top_at, p)?;
+    let bottom = side(bottom_at, q)?;
+    Ok(Channel { length, top, bottom })
+}
+
+/// Whether the terminal's set has the column.
+fn names(terminal: &Terminal, column: u8) -> bool {
+    (1..=64).contains(&column) && terminal.set & (1 << (column - 1)) != 0
+}
+
+/// Whether the terminal may stand in `column` where the one before it stands in `before`.
+fn within(terminal: &Terminal, before: u8, column: u8) -> bool {
+    let distance = i32::from(column) - i32::from(before);
+    i32::from(terminal.least) <= distance && distance <= i32::from(terminal.greatest)
+}
+
+impl Channel {
+    pub fn terminals(&self) -> usize {
+        self.top.len() + self.bottom.len()
+    }
+
+    /// The work cells that a search needs.
+    pub fn cells(&self) -> usize {
+        (self.top.len() + 1) * (self.bottom.len() + 1) * (self.length + 1) * (self.length + 1)
+    }
+
+    /// The distinct nets.
+    fn nets(&self) -> Vec<u16> {
+        let mut nets: Vec<u16> = self.top.iter().chain(&self.bottom).map(|t| t.net).collect();
+        nets.sort_unstable();
+        nets.dedup();
+        nets
+    }
+
+    /// The density of a column list: the greatest number of nets that cross a column.
+    pub fn density(&self, list: &[u8]) -> u32 {
+        let pins_of = |net| -> Vec<usize> {
+            let terminals = self.top.iter().chain(&self.bottom);
+            terminals.zip(list).filter(|(t, _)| t.net == net).map(|(_, column)| usize::from(*column)).collect()
+        };
+        let pins: Vec<Vec<usize>> = self.nets().into_iter().map(pins_of).collect();
+        let crosses = |pins: &&Vec<usize>, column: usize| {
+            let (leftmost, rightmost) = (*pins.iter().min().unwrap(), *pins.iter().max().unwrap());
+            leftmost <= column && column <= rightmost && pins.iter().any(|pin| *pin != column)
+        };
+        (1..=self.length).map(|column| pins.iter().filter(|pins| crosses(pins, column)).count() as u32).max().unwrap()
+    }
+
+    /// The density of a column list, or 12, 13 or 14.
+    pub fn measure(&self, list: &[u8]) -> Result<u32, u32> {
+        if list.len() != self.terminals() {
+            return Err(12);
+        }
+        if self.top.iter().chain(&self.bottom).zip(list).any(|(t, c)| !names(t, *c)) {
+            return Err(13);
+        }
+        let (top, bottom) = list.split_at(self.top.len());
+        for (terminals, columns) in [(&self.top, top), (&self.bottom, bottom)] {
+            for place in 1..columns.len() {
+                if !within(&terminals[place], columns[place - 1], columns[place]) {
+                    return Err(14);
+                }
+            }
+        }
+        Ok(self.density(list))
+    }
+
+    /// The word of a column list: a letter a column, from column L down.
+    pub fn word(&self, list: &[u8]) -> Vec<u8> {
+        let (top, bottom) = list.split_at(self.top.len());
+        let letter = |column| u8::from(top.contains(&column)) + 2 * u8::from(bottom.contains(&column));
+        (1..=self.length as u8).rev().map(letter).collect()
+    }
+
+    /// The best assignment and its density, by trying every assignment.
+    pub fn best_of_all(&self) -> Option<(u32, Vec<u8>)> {
+        let bottoms = self.side_lists(&self.bottom);
+        let mut best: Option<(u32, Vec<u8>, Vec<u8>)> = None;
+        for top in self.side_lists(&self.top) {
+            for bottom in &bottoms {
+                let list = [&top[..], bottom].concat();
+                let density = self.density(&list);
+                if best.as_ref().is_some_and(|(least, ..)| *least < density) {
+                    continue;
+                }
+                let word = self.word(&list);
+                if best.as_ref().is_none_or(|(least, smallest, _)| (density, &word) < (*least, smallest)) {
+                    best = Some((density, word, list));
+                }
+            }
+        }
+        best.map(|(density, _, list)| (density, list))
+    }
+
+    /// Every list of a side's columns that keeps its sets and its distances.
+    fn side_lists(&self, terminals: &[Terminal]) -> Vec<Vec<u8>> {
+        let mut lists = vec![Vec::new()];
+        for (place, terminal) in terminals.iter().enumerate() {
+            let mut longer = Vec::new();
+            for list in &lists {
+                for column in 1..=self.length as u8 {
+                    if names(terminal, column) && (place == 0 || within(terminal, list[place - 1], column)) {
+                        longer.push([&list[..], &[column]].concat());
+                    }
+                }
+            }
+            lists = longer;
+        }
+        lists
+    }
+
+    /// The best assignment and its density, by the dynamic programme over d(i, j, u, v).
+    pub fn best(&self) -> Option<(u32, Vec<u8>)> {
+        let table = Table::of(self);
+        let least = *table.last().iter().min().unwrap();
+        (least != NONE).then(|| (u32::from(least), table.smallest_word(least)))
+    }
+}
+
+/// Above every density.
+const NONE: u8 = 255;
+
+/// d(i, j, u, v): the least density of columns 1 to max(u, v) where the first i top and j bottom terminals are placed, the last of them
+/// in columns u and v. A side with none placed has its last one in column 0.
+struct Table<'a> {
+    channel: &'a Channel,
+    loads: Vec<u8>,
+    d: Vec<u8>,
+}
+
+impl<'a> Table<'a> {
+    fn of(channel: &'a Channel) -> Self {
+        let (p, q, side) = (channel.top.len(), channel.bottom.len(), channel.length + 1);
+        let plane = side * side;
+        let mut table = Table { channel, loads: loads_of(channel), d: vec![NONE; (p + 1) * (q + 1) * plane] };
+        table.d[0] = 0;
+        for i in 0..=p {
+            for j in 0..=q {
+                if i + j > 0 {
+                    let (before, rest) = table.d.split_at_mut((i * (q + 1) + j) * plane);
+                    let here = &mut rest[..plane];
+                    let earlier = |i: usize, j: usize| &before[(i * (q + 1) + j) * plane..][..plane];
+                    if i > 0 {
+                        // u > v: a top pin alone
+                        let (from, load) = (earlier(i - 1, j), table.loads[(i * (q + 1) + j) * 4 + 1]);
+                        for u in 1..side {
+                            for u1 in predecessors(&channel.top, i, u) {
+                                for v in 0..u {
+                                    here[u * side + v] = here[u * side + v].min(from[u1 * side + v].max(load));
+                                }
+                            }
+                        }
+                    }
+                    if j > 0 {
+                        // u < v: a bottom pin alone
+                        let (from, load) = (earlier(i, j - 1), table.loads[(i * (q + 1) + j) * 4 + 2]);
+                        for v in 1..side {
+                            for v1 in predecessors(&channel.bottom, j, v) {
+                                for u in 0..v {
+                                    here[u * side + v] = here[u * side + v].min(from[u * side + v1].max(load));
+                                }
+                            }
+                        }
+                    }
+                    if i > 0 && j > 0 {
+                        // u = v: both
+                        let (from, load) = (earlier(i - 1, j - 1), table.loads[(i * (q + 1) + j) * 4 + 3]);
+                        for u in 1..side {
+                            for u1 in predecessors(&channel.top, i, u) {
+                                for v1 in predecessors(&channel.bottom, j, u) {
+                                    here[u * side + u] = here[u * side + u].min(from[u1 * side + v1].max(load));
+                                }
+                            }
+                        }
+                    }
+                }
+            }
+        }
+        table
+    }
+
+    fn plane(&self, i: usize, j: usize) -> &[u8] {
+        let plane = (self.channel.length + 1) * (self.channel.length + 1);
+        &self.d[(i * (self.channel.bottom.len() + 1) + j) * plane..][..plane]
+    }
+
+    fn last(&self) -> &[u8] {
+        self.plane(self.channel.top.len(), self.channel.bottom.len())
+    }
+
+    /// The assignment with the smallest word among those of the density, which is the least: from column L down, the first of the letters
+    /// 0, 1, 2, 3 that leaves a completion.
+    fn smallest_word(&self, least: u8) -> Vec<u8> {
+        let (p, q) = (self.channel.top.len(), self.channel.bottom.len());
+        let mut list = vec![0; p + q];
+        // the next terminal of each side to be placed, and the column of the one after it, where there is one
+        let (mut i, mut j, mut after_top, mut after_bottom) = (p, q, None, None);
+        for column in (1..=self.channel.length).rev() {
+            let (letter, next) = (0..4)
+                .find_map(|letter| {
+                    let (a, b) = (letter & 1, letter >> 1);
+                    if i < a || j < b || (a == 1 && !fits(&self.channel.top, i, column, after_top)) {
+                        return None;
+                    }
+                    if b == 1 && !fits(&self.channel.bottom, j, column, after_bottom) {
+                        return None;
+                    }
+                    if letter > 0 && self.loads[(i * (q + 1) + j) * 4 + letter] > least {
+                        return None;
+                    }
+                    let next_top = if a == 1 { Some(column) } else { after_top };
+                    let next_bottom = if b == 1 { Some(column) } else { after_bottom };
+                    self.completes(i - a, j - b, column, next_top, next_bottom, least).then_some((letter, (next_top, next_bottom)))
+                })
+                .expect("a letter fits, since the density is reached");
+            if letter & 1 == 1 {
+                list[i - 1] = column as u8;
+                i -= 1;
+            }
+            if letter >> 1 == 1 {
+                list[p + j - 1] = column as u8;
+                j -= 1;
+            }
+            (after_top, after_bottom) = next;
+        }
+        list
+    }
+
+    /// Whether the first i and j terminals can stand left of the column, at distances that suit the terminals after them, under the bound.
+    fn completes(&self, i: usize, j: usize, column: usize, after_top: Option<usize>, after_bottom: Option<usize>, bound: u8) -> bool {
+        let side = self.channel.length + 1;
+        let suits = |terminals: &[Terminal], count: usize, at: usize, after: Option<usize>| match after {
+            Some(after) if count > 0 => within(&terminals[count], at as u8, after as u8),
+            _ => true,
+        };
+        (0..column).any(|u| {
+            suits(&self.channel.top, i, u, after_top)
+                && (0..column).any(|v| suits(&self.channel.bottom, j, v, after_bottom) && self.plane(i, j)[u * side + v] <= bound)
+        })
+    }
+}
+
+/// Whether terminal i (from 1) may stand in the column, seen from the terminal after it.
+fn fits(terminals: &[Terminal], i: usize, column: usize, after: Option<usize>) -> bool {
+    names(&terminals[i - 1], column as u8) && after.is_none_or(|after| within(&terminals[i], column as u8, after as u8))
+}
+
+/// The columns of terminal i - 1 that suit terminal i (from 1) in the column; 0 for the terminal before the first.
+fn predecessors(terminals: &[Terminal], i: usize, column: usize) -> std::ops::Range<usize> {
+    let terminal = &terminals[i - 1];
+    if !names(terminal, column as u8) {
+        0..0
+    } else if i == 1 {
+        0..1
+    } else {
+        let first = column.saturating_sub(usize::from(terminal.greatest)).max(1);
+        let last = column.saturating_sub(usize::from(terminal.least));
+        first..(last + 1).max(first)
+    }
+}
+
+/// For each i, j and letter the number of nets that cross a column with this letter where i top and j bottom pins stand in it or left of
+/// it.
+fn loads_of(channel: &Channel) -> Vec<u8> {
+    let (p, q) = (channel.top.len(), channel.bottom.len());
+    let mut loads = vec![0; (p + 1) * (q + 1) * 4];
+    let up_to = |terminals: &[Terminal], net: u16| -> Vec<usize> {
+        let mut count = 0;
+        let counts = terminals.iter().map(|t| {
+            count += usize::from(t.net == net);
+            count
+        });
+        std::iter::once(0).chain(counts).collect()
+    };
+    for net in channel.nets() {
+        let (top, bottom) = (up_to(&channel.top, net), up_to(&channel.bottom, net));
+        for i in 0..=p {
+            for j in 0..=q {
+                for letter in 1..4 {
+                    let (a, b) = (letter & 1, letter >> 1);
+                    if i < a || j < b {
+                        continue;
+                    }
+                    let left = top[i - a] + bottom[j - b];
+                    let here = top[i] + bottom[j] - left;
+                    let right = top[p] + bottom[q] - left - here;
+                    if left + here > 0 && here + right > 0 && left + right > 0 {
+                        loads[(i * (q + 1) + j) * 4 + letter] += 1;
+                    }
+                }
+            }
+        }
+    }
+    loads
+}

@@ -1,0 +1,95 @@
+//! Sound sheets of every size, and the reference's two searches against each other.
+use crate::draw::{channel, channel_up_to, sheet_of, Draw};
+use crate::lent::{Held, Seen};
+use crate::reference::Channel;
+use cazdrob::Searcher;
+
+/// Every call on the channel's sheet, on buffers of just the lengths that are needed and on longer ones.
+fn every_call(draw: &mut Draw, channel: &Channel, list: Option<Vec<u8>>, searcher: Searcher, seen: &mut Seen) -> Searcher {
+    let sheet = sheet_of(channel, draw.once_in(2));
+    let mut held = Held::with(sheet, searcher);
+    assert_eq!(held.read.as_ref(), Ok(channel));
+    held.check(draw, seen);
+    let (terminals, cells) = (held.terminals(), held.cells());
+    let (columns_spare, cells_spare) = draw.of(&[(0, 0), (0, 7), (3, 0), (90, 40)]);
+    held.search(draw, terminals + columns_spare, cells + cells_spare, seen);
+    held.wrapped(draw);
+    if let Some((least, best)) = held.best().clone() {
+        held.measure(draw, &best, seen);
+        if let Some(list) = list {
+            held.measure(draw, &list, seen);
+            assert!(channel.measure(&list).is_ok_and(|density| density >= least));
+        }
+    } else {
+        assert_eq!(list, None);
+    }
+    held.searcher()
+}
+
+fn many(test: &str, seed: u64, sheets: usize, length: usize, p: usize, q: usize) -> Seen {
+    let mut draw = Draw::new(seed);
+    let mut seen = Seen::default();
+    let mut searcher = Searcher::new();
+    for _ in 0..sheets {
+        let (channel, list) = channel_up_to(&mut draw, length, p, q);
+        searcher = every_call(&mut draw, &channel, list, searcher, &mut seen);
+    }
+    seen.print(test);
+    seen
+}
+
+#[test]
+fn the_dynamic_programme_agrees_with_every_assignment_tried() {
+    let mut draw = Draw::new(1);
+    let (mut with, mut without, mut ties) = (0, 0, 0);
+    for _ in 0..60_000 {
+        let (length, most) = draw.of(&[(4, 4), (5, 4), (6, 4), (7, 3), (9, 2)]);
+        let (channel, list) = channel_up_to(&mut draw, length, most, most);
+        let best = channel.best();
+        assert_eq!(best, channel.best_of_all(), "{channel:?}");
+        match best {
+            None => without += 1,
+            Some((least, best)) => {
+                with += 1;
+                // a drawn assignment that only the word tells from the best one
+                let tied = |list: &Vec<u8>| *list != best && channel.measure(list) == Ok(least);
+                ties += u32::from(list.as_ref().is_some_and(tied));
+            }
+        }
+    }
+    println!("{with} with an assignment, {without} without; {ties} ties");
+    assert!(with > 40_000 && without > 5_000 && ties > 10_000);
+}
+
+#[test]
+fn small_sheets() {
+    let seen = many("small sheets", 2, 100_000, 6, 4, 4);
+    assert!(seen.search[0] > 80_000 && seen.search[11] > 10_000);
+}
+
+#[test]
+fn middle_sheets() {
+    let seen = many("middle sheets", 3, 8_000, 24, 12, 12);
+    assert!(seen.search[0] > 6_000 && seen.search[11] > 1_000);
+}
+
+#[test]
+fn large_sheets() {
+    let seen = many("large sheets", 4, 400, 64, 24, 24);
+    assert!(seen.search[0] > 250 && seen.search[11] > 50);
+}
+
+#[test]
+fn the_largest_sheets() {
+    let mut draw = Draw::new(5);
+    let mut seen = Seen::default();
+    let mut searcher = Searcher::new();
+    let sizes =
+        [(64, 64), (63, 64), (64, 40), (1, 64), (64, 0), (0, 64), (48, 48), (50, 44), (40, 40), (32, 33), (32, 32), (32, 32), (20, 64)];
+    for (p, q) in sizes {
+        let (channel, list) = channel(&mut draw, 64, p, q);
+        searcher = every_call(&mut draw, &channel, list, searcher, &mut seen);
+    }
+    seen.print("the largest sheets");
+    assert!(seen.search[0] >= 8);
+}

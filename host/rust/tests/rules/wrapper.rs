@@ -1,0 +1,41 @@
+//! What the wrapper adds: the numbers' names and a searcher that is used again.
+use crate::draw::{channel, sheet_of, Draw};
+use cazdrob::{Refusal, Searcher};
+
+#[test]
+fn refusals_have_their_numbers() {
+    use Refusal::*;
+    let all = [Short, Mark, Length, Count, Layout, Net, Distance, Beyond, Columns, Cells, NoAssignment, ListLength, NotAllowed, OutOfRange];
+    for (place, refusal) in all.into_iter().enumerate() {
+        assert_eq!(refusal.number(), place as u32 + 1);
+        assert!(refusal.to_string().starts_with(&format!("refused {}: ", place + 1)));
+    }
+}
+
+/// Small sheets after large ones, refused ones between them, and column buffers that are too short.
+#[test]
+fn a_searcher_is_used_again() {
+    let mut draw = Draw::new(61);
+    let mut used = Searcher::new();
+    let (mut found, mut too_short) = (0, 0);
+    for _ in 0..2_000 {
+        let length = draw.of(&[1, 3, 12, 30]);
+        let (p, q) = (draw.between(0, 6), draw.between(0, 6));
+        let (channel, _) = channel(&mut draw, length, p, q);
+        let sheet = sheet_of(&channel, draw.once_in(2));
+        let answer = used.assign(&sheet);
+        assert_eq!(answer, Searcher::default().assign(&sheet));
+        assert_eq!(used.assign(&sheet[1..]).unwrap_err(), cazdrob::check(&sheet[1..]).unwrap_err());
+        if let Ok(best) = answer {
+            assert_eq!(channel.measure(&best.columns), Ok(best.density));
+            found += 1;
+            if p + q > 0 {
+                let mut columns = vec![99; p + q - 1];
+                assert_eq!(used.search(&sheet, &mut columns), Err(Refusal::Columns));
+                assert!(columns.iter().all(|column| *column == 99));
+                too_short += 1;
+            }
+        }
+    }
+    assert!(found > 1_000 && too_short > 1_000);
+}
