@@ -218,3 +218,21 @@ fn answer(number: u32) -> Result<(), Refusal> {
         _ => unreachable!("the library returns 0 to 14, not {number}"),
     })
 }
+
+#[cfg(test)]
+mod tests {
+    use super::*;
+
+    #[test]
+    fn work_cells_grow_only_where_a_sheet_needs_more() {
+        let mut searcher = Searcher::new();
+        // no terminals, so (L+1)² cells; 65 columns are refused
+        for (length, held) in [(3, 16), (1, 16), (10, 121), (65, 121), (3, 121), (64, 4225), (10, 4225)] {
+            let sheet = [0, 0, 0, 0, 0, 0, 0, 0, length, 0, b'C', b'P'];
+            let wanted = if length == 65 { Err(Refusal::Length) } else { Ok(0) };
+            assert_eq!(searcher.search(&sheet, &mut []), wanted);
+            assert_eq!(searcher.work.len(), held);
+            assert!(searcher.work.iter().all(|cell| *cell == 0));
+        }
+    }
+}

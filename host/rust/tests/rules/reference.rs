@@ -192,7 +192,8 @@ impl Channel {
 const NONE: u8 = 255;
 
 /// d(i, j, u, v): the least density of columns 1 to max(u, v) where the first i top and j bottom terminals are placed, the last of them
-/// in columns u and v. A side with none placed has its last one in column 0.
+/// in columns u and v. A side with none placed has its last one in column 0. Columns u < i and v < j are left out, as the columns of a side
+/// rise.
 struct Table<'a> {
     channel: &'a Channel,
     loads: Vec<u8>,
@@ -216,7 +217,7 @@ impl<'a> Table<'a> {
                         let (from, load) = (earlier(i - 1, j), table.loads[(i * (q + 1) + j) * 4 + 1]);
                         for u in 1..side {
                             for u1 in predecessors(&channel.top, i, u) {
-                                for v in 0..u {
+                                for v in j..u {
                                     here[u * side + v] = here[u * side + v].min(from[u1 * side + v].max(load));
                                 }
                             }
@@ -227,7 +228,7 @@ impl<'a> Table<'a> {
                         let (from, load) = (earlier(i, j - 1), table.loads[(i * (q + 1) + j) * 4 + 2]);
                         for v in 1..side {
                             for v1 in predecessors(&channel.bottom, j, v) {
-                                for u in 0..v {
+                                for u in i..v {
                                     here[u * side + v] = here[u * side + v].min(from[u * side + v1].max(load));
                                 }
                             }
@@ -324,7 +325,8 @@ fn predecessors(terminals: &[Terminal], i: usize, column: usize) -> std::ops::Ra
     } else if i == 1 {
         0..1
     } else {
-        let first = column.saturating_sub(usize::from(terminal.greatest)).max(1);
+        // the columns of a side rise, so terminal i - 1 is in column i - 1 or right of it
+        let first = column.saturating_sub(usize::from(terminal.greatest)).max(i - 1);
         let last = column.saturating_sub(usize::from(terminal.least));
         first..(last + 1).max(first)
     }

@@ -1,7 +1,7 @@
 //! Sound sheets of every size, and the reference's two searches against each other.
-use crate::draw::{channel, channel_up_to, sheet_of, Draw};
+use crate::draw::{all_columns, channel, channel_up_to, sheet_of, Draw};
 use crate::lent::{Held, Seen};
-use crate::reference::Channel;
+use crate::reference::{Channel, Terminal};
 use cazdrob::Searcher;
 
 /// Every call on the channel's sheet, on buffers of just the lengths that are needed and on longer ones.
@@ -92,4 +92,31 @@ fn the_largest_sheets() {
     }
     seen.print("the largest sheets");
     assert!(seen.search[0] >= 8);
+}
+
+/// The nets of one side in the reverse order at the other, on just as many columns and on twice as many: up to the greatest density, 64.
+#[test]
+fn reversed_nets() {
+    let mut draw = Draw::new(6);
+    let mut seen = Seen::default();
+    let mut searcher = Searcher::new();
+    for terminals in [1, 2, 3, 7, 16, 31, 32, 64] {
+        for length in [terminals, (2 * terminals).min(64)] {
+            let side = |nets: &mut dyn Iterator<Item = u16>| -> Vec<Terminal> {
+                let terminal = |(place, net)| {
+                    let (least, greatest) = if place == 0 { (0, 0) } else { (1, 255) };
+                    Terminal { net, least, greatest, set: all_columns(length) }
+                };
+                nets.enumerate().map(terminal).collect()
+            };
+            let nets = 1..=terminals as u16;
+            let channel = Channel { length, top: side(&mut nets.clone()), bottom: side(&mut nets.rev()) };
+            if length == terminals && terminals % 2 == 0 {
+                // every net crosses the two columns in the middle
+                assert_eq!(channel.best().map(|(density, _)| density), Some(terminals as u32));
+            }
+            searcher = every_call(&mut draw, &channel, None, searcher, &mut seen);
+        }
+    }
+    assert_eq!(seen.search[0], 16);
 }
