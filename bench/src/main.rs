@@ -8,7 +8,7 @@ use std::hint::black_box;
 use std::process::ExitCode;
 use std::time::{Duration, Instant};
 
-const RUNS: usize = 15;
+const RUNS: usize = 31;
 const SHORTEST_RUN: Duration = Duration::from_millis(2);
 
 /// One sheet with the buffers that both programs are lent in turn.
@@ -33,14 +33,20 @@ impl Trial {
         let sheet = sheet(plan);
         let work = vec![0; cazdrob::cells(&sheet)];
         let columns = vec![0; plan.top + plan.bottom];
-        Trial { sheet, list: columns.clone(), columns, work }
+        Trial {
+            sheet,
+            list: columns.clone(),
+            columns,
+            work,
+        }
     }
 
     fn job(&mut self, job: Job) -> Result<u32, u32> {
         let sheet = black_box(&self.sheet[..]);
         let list = black_box(&self.list[..]);
         match job {
-            Job::Search => cazdrob::search(sheet, &mut self.columns, &mut self.work).map_err(|why| why.number()),
+            Job::Search => cazdrob::search(sheet, &mut self.columns, &mut self.work)
+                .map_err(|why| why.number()),
             Job::PlainSearch => plain::search(sheet, &mut self.columns, &mut self.work),
             Job::Measure => cazdrob::measure(sheet, list).map_err(|why| why.number()),
             Job::PlainMeasure => plain::measure(sheet, list),
@@ -64,7 +70,10 @@ impl Trial {
             found.push((answer, self.columns.clone()));
         }
         if found[0] != found[1] {
-            return Err(format!("searching: the library gives {:?}, the plain program {:?}", found[0], found[1]));
+            return Err(format!(
+                "searching: the library gives {:?}, the plain program {:?}",
+                found[0], found[1]
+            ));
         }
         self.list = if found[0].0.is_ok() {
             self.columns.clone()
@@ -74,10 +83,15 @@ impl Trial {
         };
         let (ours, plain) = (self.job(Job::Measure), self.job(Job::PlainMeasure));
         if ours != plain {
-            return Err(format!("measuring: the library gives {ours:?}, the plain program {plain:?}"));
+            return Err(format!(
+                "measuring: the library gives {ours:?}, the plain program {plain:?}"
+            ));
         }
         if found[0].0.is_ok() && ours != found[0].0 {
-            return Err(format!("searching gives {:?} and measuring what it found {ours:?}", found[0].0));
+            return Err(format!(
+                "searching gives {:?} and measuring what it found {ours:?}",
+                found[0].0
+            ));
         }
         Ok(found[0].0)
     }
@@ -122,9 +136,28 @@ fn rows() -> Vec<(&'static str, Plan)> {
         ("5 a side on 12", open(5, 12)),
         ("16 a side on 40", open(16, 40)),
         ("32 a side on 64", open(32, 64)),
-        ("32 a side on 64, ranges 1 to 4", Plan { range: (1, 4), ..open(32, 64) }),
-        ("16 a side on 40, no assignment", Plan { last_top: 15, ..open(16, 40) }),
+        (
+            "32 a side on 64, ranges 1 to 4",
+            Plan {
+                range: (1, 4),
+                ..open(32, 64)
+            },
+        ),
+        (
+            "16 a side on 40, no assignment",
+            Plan {
+                last_top: 15,
+                ..open(16, 40)
+            },
+        ),
     ]
+}
+
+fn shown(answer: Result<u32, u32>) -> String {
+    answer.map_or_else(
+        |number| format!("refused {number}"),
+        |density| density.to_string(),
+    )
 }
 
 fn span(seconds: f64) -> String {
@@ -138,16 +171,29 @@ fn span(seconds: f64) -> String {
 }
 
 fn main_table() -> Result<(), String> {
-    let heads = ["row", "sheet", "density", "search", "plain search", "plain/ours", "measure", "plain measure", "plain/ours", "clearing"];
-    println!("{:>3} {:<32} {:>8} {:>10} {:>13} {:>10} {:>10} {:>13} {:>10} {:>9}", heads[0], heads[1], heads[2], heads[3], heads[4], heads[5], heads[6], heads[7], heads[8], heads[9]);
+    println!("{:>39}search{:>30}measuring", "", "");
+    println!(
+        "{:<3}  {:<30}  {:>11}{:>11}{:>8}  {:>13}{:>11}{:>8}  {:>8}  {:>10}",
+        "row",
+        "sheet",
+        "Cazdrob",
+        "plain",
+        "ratio",
+        "Cazdrob",
+        "plain",
+        "ratio",
+        "clearing",
+        "density"
+    );
     for (k, (name, plan)) in rows().iter().enumerate() {
         let mut trial = Trial::new(plan);
-        let answer = trial.agree().map_err(|why| format!("row {}: {why}", k + 1))?;
-        let shown = answer.map_or_else(|number| format!("none, {number}"), |density| density.to_string());
+        let answer = trial
+            .agree()
+            .map_err(|why| format!("row {}: {why}", k + 1))?;
         let [search, plain, clear] = trial.time([Job::Search, Job::PlainSearch, Job::Clear]);
         let [measure, plain_measure] = trial.time([Job::Measure, Job::PlainMeasure]);
         println!(
-            "{:>3} {name:<32} {shown:>8} {:>10} {:>13} {:>10.2} {:>10} {:>13} {:>10.2} {:>8.1}%",
+            "{:<3}  {name:<30}  {:>11}{:>11}{:>8.2}  {:>13}{:>11}{:>8.2}  {:>7.1}%  {:>10}",
             k + 1,
             span(search),
             span(plain),
@@ -156,14 +202,95 @@ fn main_table() -> Result<(), String> {
             span(plain_measure),
             plain_measure / measure,
             100.0 * clear / plain,
+            shown(answer),
         );
     }
+    println!(
+        "
+ratio: the plain program's time over Cazdrob's. Each time is the median of {RUNS} runs, and a run is as many calls as
+take at least {} ms. The two take turns, on the same sheet and the same buffers, which are not cleared before a call.
+Before the timing both gave the same answer, the same columns and the same density of them.
+Both leave every work cell 0, as the rules ask. clearing: the share of that in the plain program's time.
+Row 5 is row 2 with the last top terminal held to columns 1 to 15. No list is an assignment of it: the measured one
+has the columns 1 to 16 on each side and both refuse it with 13.",
+        SHORTEST_RUN.as_millis()
+    );
+    Ok(())
+}
+
+fn growth(title: &str, plans: &[Plan]) -> Result<(), String> {
+    println!("\n{title}\n");
+    println!(
+        "{:>6}  {:>3}  {:>11}{:>8}  {:>11}{:>8}",
+        "a side", "L", "Cazdrob", "growth", "plain", "growth"
+    );
+    let mut before: Option<[f64; 2]> = None;
+    for plan in plans {
+        let mut trial = Trial::new(plan);
+        trial
+            .agree()
+            .map_err(|why| format!("{} a side on {}: {why}", plan.top, plan.length))?
+            .ok();
+        let times = trial.time([Job::Search, Job::PlainSearch]);
+        let grown = |k: usize| {
+            before.map_or_else(String::new, |before| format!("{:.2}", times[k] / before[k]))
+        };
+        println!(
+            "{:>6}  {:>3}  {:>11}{:>8}  {:>11}{:>8}",
+            plan.top,
+            plan.length,
+            span(times[0]),
+            grown(0),
+            span(times[1]),
+            grown(1)
+        );
+        before = Some(times);
+    }
+    Ok(())
+}
+
+/// Name, nets, length and seconds of the paper's table 1, as far as its channels have at most 64 columns.
+const PAPER: [(&str, usize, usize, f64); 4] = [
+    ("Ex1", 15, 20, 1.05),
+    ("Ex2", 21, 35, 7.72),
+    ("Ex3", 30, 62, 26.92),
+    ("Ex4", 47, 61, 40.97),
+];
+
+fn paper_table() -> Result<(), String> {
+    println!("\nBeside table 1 of Cai and Wong (1990): Pascal on a Sun 3/50\n");
+    println!(
+        "{:<3}  {:>5}  {:>4}  {:>8}  {:>6}  {:>11}",
+        "Ex.", "#Nets", "Len.", "CPU(s)", "a side", "Cazdrob"
+    );
+    for (name, nets, length, seconds) in PAPER {
+        let mut trial = Trial::new(&Plan {
+            nets,
+            ..open(nets, length)
+        });
+        trial.agree().map_err(|why| format!("{name}: {why}"))?.ok();
+        let [search] = trial.time([Job::Search]);
+        println!(
+            "{name:<3}  {nets:>5}  {length:>4}  {seconds:>8.2}  {nets:>6}  {:>11}",
+            span(search)
+        );
+    }
+    println!(
+        "
+Ex5 to Ex8 have 79 to 175 columns, more than the 64 of a sheet. The paper does not print the terminals. Ours are
+random sheets of as many nets and columns, each net with one pin on each side: section 1 says so of the nets of the
+source of Ex1; of Ex2 to Ex4 it is assumed, and they may have more pins. Full sets and no distance that binds, as in
+section 7. The paper needs no distances here, and so no more than its algorithm of section 4; Cazdrob's search is the
+one with distances. Another machine and other sheets: only the order of magnitude compares."
+    );
     Ok(())
 }
 
 fn only(words: &[String]) -> Result<(), String> {
     let usage = "usage: bench/run [--only ROW search|plain|measure|plain-measure N]";
-    let [row, job, times] = words else { return Err(usage.into()) };
+    let [row, job, times] = words else {
+        return Err(usage.into());
+    };
     let row: usize = row.parse().map_err(|_| usage)?;
     let times = times.parse().map_err(|_| usage)?;
     let job = match &job[..] {
@@ -174,10 +301,13 @@ fn only(words: &[String]) -> Result<(), String> {
         _ => return Err(usage.into()),
     };
     let rows = rows();
-    let (_, plan) = row.checked_sub(1).and_then(|k| rows.get(k)).ok_or("no such row")?;
+    let (_, plan) = row
+        .checked_sub(1)
+        .and_then(|k| rows.get(k))
+        .ok_or("no such row")?;
     let mut trial = Trial::new(plan);
     if matches!(job, Job::Measure | Job::PlainMeasure) {
-        let _ = trial.agree()?;
+        trial.agree()?.ok();
     }
     let taken = trial.run(job, times);
     println!("{times} calls in {:.3} s", taken.as_secs_f64());
@@ -185,7 +315,16 @@ fn only(words: &[String]) -> Result<(), String> {
 }
 
 fn tables() -> Result<(), String> {
-    main_table()
+    main_table()?;
+    growth(
+        "Search as L doubles",
+        &[16, 32, 64].map(|length| open(8, length)),
+    )?;
+    growth(
+        "Search as p and q double",
+        &[4, 8, 16, 32].map(|pins| open(pins, 64)),
+    )?;
+    paper_table()
 }
 
 fn main() -> ExitCode {

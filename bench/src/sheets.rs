@@ -12,6 +12,7 @@ impl Draws {
     }
 }
 
+#[derive(Clone, Copy)]
 pub struct Plan {
     pub length: usize,
     pub top: usize,
@@ -23,24 +24,38 @@ pub struct Plan {
     pub last_top: usize,
 }
 
-/// Full sets, no distance that binds, and nets of two or three pins.
+/// Full sets, no distance that binds, and nets of two to four pins that have a pin on each side.
 pub fn open(pins: usize, length: usize) -> Plan {
-    Plan { length, top: pins, bottom: pins, nets: (2 * pins * 2).div_ceil(5), range: (1, 255), last_top: length }
+    Plan {
+        length,
+        top: pins,
+        bottom: pins,
+        nets: (2 * pins * 2).div_ceil(5),
+        range: (1, 255),
+        last_top: length,
+    }
 }
 
-/// The bytes of a sheet whose pins are dealt to the nets in turn and then shuffled over both sides.
+/// The bytes of a sheet whose pins are dealt to the nets in turn and then shuffled, each side by itself.
 pub fn sheet(plan: &Plan) -> Vec<u8> {
     let pins = plan.top + plan.bottom;
-    let mut draws = Draws(0x9e37_79b9_7f4a_7c15);
+    let mut draws = Draws(0x3c6e_f372_fe94_f82a);
     let mut nets: Vec<usize> = (0..pins).map(|k| k % plan.nets + 1).collect();
-    for k in (1..pins).rev() {
-        nets.swap(k, draws.below(k + 1));
+    let (top, bottom) = nets.split_at_mut(plan.top);
+    for side in [top, bottom] {
+        for k in (1..side.len()).rev() {
+            side.swap(k, draws.below(k + 1));
+        }
     }
     let mut bytes = Vec::with_capacity(12 * pins + 12);
     for (k, net) in nets.into_iter().enumerate() {
         let first = k == 0 || k == plan.top;
         let (least, greatest) = if first { (0, 0) } else { plan.range };
-        let last = if k + 1 == plan.top { plan.last_top } else { plan.length };
+        let last = if k + 1 == plan.top {
+            plan.last_top
+        } else {
+            plan.length
+        };
         bytes.extend((net as u16).to_le_bytes());
         bytes.extend([least, greatest]);
         bytes.extend((u64::MAX >> (64 - last)).to_le_bytes());
