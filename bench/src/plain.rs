@@ -141,8 +141,8 @@ fn collect_nets(channel: &Channel) -> Vec<Net> {
     nets
 }
 
-/// The nets that cross a column in which `in_column` says how many pins of a net stand, after i top and j bottom pins before
-/// it, and with all pins up to the k-th top and m-th bottom one in it or before it.
+/// The nets that cross a column. `before` are the top and bottom pins left of it, `up_to` those with the column's own, and
+/// `in_column` says how many of these a net has.
 fn crossing(
     nets: &[Net],
     before: (usize, usize),
