@@ -9,6 +9,7 @@ use native.Mathlib.Nat.{div-eq-of-lt, div-one, lt-of-lt-of-le, mul-assoc}
 use native.Mathlib.Numerals.{add-one}
 use lib.Dec.{leb, ltb, eqb}
 use lib.Bits.{bitAnd, bitOr, and-mod, or-mod, and-shr, or-shr}
+use lib.Count.{trailingZeros, under}
 use lib.Pow.{pow-pos, pow-mono, pow-add, shl-shr, shr-shr, field, mod-mod-pow, ones-split, ones-lt, high}
 use borrow.Author.Tests.{leb-true, leb-false, le-leb, ltb-true, ltb-false, eq-eqb, ne-eqb, eqb-true, eqb-false}
 use Rattle.channel.proofs.Sets.{bit-of}
@@ -55,6 +56,10 @@ bit-and a b k = ap odd (and-shr a b k) ∙ odd-and (a / 2 ^ k) (b / 2 ^ k)
 pub bit-zero : (k : ℕ) → bitOf 0 k ≡ false
 unfolding bitOf
 bit-zero k = ap (λ (n : ℕ). eqb (n % 2) 1) (div-eq-of-lt (pow-pos k))
+
+pub bit-first : (w : ℕ) → bitOf w 0 ≡ eqb (w % 2) 1
+unfolding bitOf
+bit-first w = ap (λ (n : ℕ). eqb (n % 2) 1) (div-one w)
 
 -- a number below 2 ^ m has no bit from m on
 pub bit-high : (w m k : ℕ) → w < 2 ^ m → m ≤ k → bitOf w k ≡ false
@@ -248,6 +253,58 @@ some-bit w h nz =
     below k e true t = absurd (true≢false (sym (eq-eqb _ 1 e) ∙ bit-high w 64 k h (leb-true 64 k t)))
     below k e false t = leb-false 64 k t
 
+-- a word's lowest bit stands above its trailing zeros
+bit-half : (w k : ℕ) → bitOf w (suc k) ≡ bitOf (w / 2) k
+bit-half w k = ap (bitOf w) (omega arith) ∙ sym (bit-shr w 1 k)
+
+pub trailing-bit : (d w : ℕ) → trailingZeros d w < d → bitOf w (trailingZeros d w) ≡ true
+unfolding trailingZeros
+trailing-bit zero w h = absurd (omega arith)
+trailing-bit (suc d) w h = by-digit (w % 2) refl h (trailing-bit d (w / 2))
+  where
+    rest : ℕ
+    rest = trailingZeros d (w / 2)
+
+    by-digit : (r : ℕ) → w % 2 ≡ r → under r rest < suc d → (rest < d → bitOf (w / 2) rest ≡ true) → bitOf w (under r rest) ≡ true
+    by-digit zero e l more = bit-half w rest ∙ more (omega arith)
+    by-digit (suc r) e l more = bit-first w ∙ eq-eqb (w % 2) 1 (omega arith)
+
+pub trailing-none : (d w k : ℕ) → k < trailingZeros d w → bitOf w k ≡ false
+unfolding trailingZeros
+trailing-none zero w k h = absurd (omega arith)
+trailing-none (suc d) w k h = by-digit (w % 2) refl k h (trailing-none d (w / 2))
+  where
+    rest : ℕ
+    rest = trailingZeros d (w / 2)
+
+    by-digit : (r : ℕ) → w % 2 ≡ r → (m : ℕ) → m < under r rest → ((i : ℕ) → i < rest → bitOf (w / 2) i ≡ false) → bitOf w m ≡ false
+    by-digit zero e zero l more = bit-first w ∙ ne-eqb (w % 2) 1 (λ o. omega arith)
+    by-digit zero e (suc m) l more = bit-half w m ∙ more m (omega arith)
+    by-digit (suc r) e m l more = absurd (omega arith)
+
+-- by a step of any number from a on, all numbers from the lowest plus a on are reached
+pub stepped-open :
+    (w by low a n : ℕ) → n < 64 → (low < 64 → bitOf w low ≡ true) → ((m : ℕ) → m < low → bitOf w m ≡ false)
+    → ((m : ℕ) → m < 64 → bitOf by m ≡ leb a m) → leb (low + a) n ≡ stepped w by n
+unfolding stepped
+stepped-open w by low a n h there none all = by-test (leb (low + a) n) refl
+  where
+    step : ℕ → Bool
+    step y = bitOf by (n - y) && bitOf w y
+
+    by-test : (b : Bool) → leb (low + a) n ≡ b → b ≡ some (suc n) step
+    by-test true e =
+        let le = leb-true (low + a) n e in
+        sym (some-from (suc n) step low (omega arith) (rw (all (n - low) (omega arith), le-leb a (n - low) (omega arith)) (there (omega arith))))
+    by-test false e = sym (some-none (suc n) step (λ y l. short y l (leb a (n - y)) refl))
+      where
+        short : (y : ℕ) → y < suc n → (b : Bool) → leb a (n - y) ≡ b → step y ≡ false
+        short y l true t =
+            let far = leb-false (low + a) n e in
+            let le = leb-true a (n - y) t in
+            rw (none y (omega arith)) (and-false (bitOf by (n - y)))
+        short y l false t = rw (all (n - y) (omega arith), t)
+
 -- one turn of the steps: what is found so far, and what is still to be found by the bits that are left
 module _ (moved left found n : ℕ) (h : n < 64) where
   or-turn : (a b c : Bool) → (a || (b || c)) ≡ ((a || b) || c)
@@ -257,14 +314,10 @@ module _ (moved left found n : ℕ) (h : n < 64) where
   abbrev rest : Bool
   rest = stepped (moved * 2 ^ 1 % 2 ^ 64) (left / 2 ^ 1) n
 
-  first : bitOf left 0 ≡ eqb (left % 2) 1
-  unfolding bitOf
-  first = ap (λ (m : ℕ). eqb (m % 2) 1) (div-one left)
-
   pub odd-turn : left % 2 ≡ 1 → (bitOf found n || stepped moved left n) ≡ (bitOf (bitOr found moved) n || rest)
   odd-turn e =
-      rw (stepped-more moved left n h, first, eq-eqb (left % 2) 1 e, bit-or found moved n)
+      rw (stepped-more moved left n h, bit-first left, eq-eqb (left % 2) 1 e, bit-or found moved n)
       (or-turn (bitOf found n) (bitOf moved n) rest)
 
   pub even-turn : (left % 2 ≡ 1 → ⊥) → (bitOf found n || stepped moved left n) ≡ (bitOf found n || rest)
-  even-turn e = rw (stepped-more moved left n h, first, ne-eqb (left % 2) 1 e)
+  even-turn e = rw (stepped-more moved left n h, bit-first left, ne-eqb (left % 2) 1 e)

@@ -1,7 +1,7 @@
 // Sets of numbers below 64 as words, and words in 16-bit cells.
 ghost use Prim.Native.Nat.{ℕ, _+_, _-_, _*_, _≤_, _<_};
 ghost use mathlib.Core.Path.{_≡_};
-ghost use mathlib.Core.Bool.{_&&_, _||_};
+ghost use mathlib.Core.Bool.{true, false, _&&_, _||_};
 ghost use lib.Dec.{leb, ltb, eqb};
 ghost use lib.ListN.{length};
 ghost use Rattle.bits.specs.Bits.{bitOf, stepped};
@@ -61,8 +61,27 @@ pub fn either(a: u64, b: u64) -> u64
     a | b
 }
 
-// The numbers that are reached from a number of w by a step of `by`.
+// The lowest number of the set; 64 where it holds none.
+pub fn lowest(w: u64) -> usize
+    ensures { λ r. ⌜ (r ≤ 64) × (r < 64 → bitOf w r ≡ true) × ((n : ℕ) → n < r → bitOf w n ≡ false) ⌝ }
+{
+    u64::trailing_zeros(w) as usize
+}
+
+// The numbers that are reached from a number of w by a step of `by`. Most often `by` holds all numbers from some number on, and then so
+// does what is reached.
 pub fn steps(w: u64, by: u64) -> u64
+    ensures { λ r. ⌜ ((n : ℕ) → n < 64 → bitOf r n ≡ stepped w by n) ⌝ }
+{
+    let least = lowest(by);
+    if by == from(least) {
+        return from(lowest(w) + least);
+    }
+    one_by_one(w, by)
+}
+
+// The same for any `by`.
+fn one_by_one(w: u64, by: u64) -> u64
     ensures { λ r. ⌜ ((n : ℕ) → n < 64 → bitOf r n ≡ stepped w by n) ⌝ }
 {
     let mut moved = w;

@@ -1,42 +1,45 @@
--- `bits::steps` meets its contract. The loop's invariant: what is reached is what is found so far or is still to be found by the bits
--- that are left.
--- The measure is the number that those bits make.
+-- `bits::steps` meets its contract.
 -- Assumes nothing.
-use Prim.Native.Nat.{ℕ, _<_}
-use mathlib.Core.Path.{_≡_, _∙_, sym, ap}
-use mathlib.Core.Bool.{_||_, or-false}
-use mathlib.Core.Logic.{⊎-elim}
-use native.Mathlib.Omega.{arith}
-use Rattle.bits.specs.Bits.{bitOf, stepped}
-use Rattle.bits.proofs.Laws.{bit-zero, stepped-none, odd-turn, even-turn}
+use Prim.Native.Nat.{ℕ}
+use mathlib.Core.Path.{_∙_, ap}
+use Rattle.bits.specs.Bits.{bitOf}
+use Rattle.bits.proofs.Laws.{stepped-open}
+use borrow.Author.Needs.{needs}
 use Rattle.bits.proofs.steps.Statement.{statement}
 use Rattle.bits.proofs.steps.Tie as tie
 
-abbrev Inv-loop : tie.InvT-loop
-Inv-loop w by moved₀ left₀ found₀ moved left found =
-    (n : ℕ) → n < 64 → stepped w by n ≡ (bitOf found n || stepped moved left n)
+lowest-requires : tie.Need-lowest-requires
+lowest-requires c κs = search needs
 
-abbrev μ-loop : tie.MeasureT-loop
-μ-loop w by moved₀ left₀ found₀ moved left found = left
+from-requires : tie.Need-from-requires
+from-requires c κs = search needs
 
-loop-holds : tie.Need-loop-holds Inv-loop μ-loop
-loop-holds c = λ n h. rw (bit-zero n)
+lowest-requires-2 : tie.Need-lowest-requires-2
+lowest-requires-2 c κs = search needs
 
-loop-less : tie.Need-loop-less Inv-loop μ-loop
-loop-less c = omega arith
+add-from : tie.Need-add-from
+add-from c = search needs
 
-loop-again : tie.Need-loop-again Inv-loop μ-loop
-loop-again c =
-    let l = c .before .before .loop in
-    ⊎-elim
-    (λ w. λ n h. l .inv n h ∙ odd-turn (l .moved) (l .left) (l .found) n h (w .0 .taken) ∙ rw (w .1))
-    (λ w. λ n h. l .inv n h ∙ even-turn (l .moved) (l .left) (l .found) n h (w .0 .left) ∙ rw (w .1))
-    (c .if1 .came)
+from-requires-2 : tie.Need-from-requires-2
+from-requires-2 c κs = search needs
 
-returns : tie.Need-returns Inv-loop μ-loop
+returns : tie.Need-returns
 returns c = λ n h.
-    let l = c .before .loop in
-    sym (l .inv n h ∙ ap (λ (k : ℕ). bitOf (l .found) n || stepped (l .moved) k n) (c .loop-test .left) ∙ rw (stepped-none (l .moved) n) (or-false (bitOf (l .found) n)))
+    let test = c .before .before in
+    let first = test .before .before in
+    let args = first .before .args in
+    let low = c .before .lowest2 in
+    c .from2 .ensures n h
+    ∙ stepped-open (args .w) (args .by) (low .result) (first .lowest .result) n h (low .ensures .1) (low .ensures .2)
+    (λ m l. ap (λ (k : ℕ). bitOf k m) (test .if1 .taken) ∙ test .before .from .ensures m l)
+
+one-by-one-requires : tie.Need-one-by-one-requires
+one-by-one-requires c κs = search needs
+
+returns-2 : tie.Need-returns-2
+returns-2 c = search needs
 
 pub steps-spec : {M : Type 1} → statement M
-steps-spec = tie.close (tie.spec Inv-loop μ-loop loop-holds loop-less loop-again returns)
+steps-spec =
+    tie.close
+    (tie.spec lowest-requires from-requires lowest-requires-2 add-from from-requires-2 returns one-by-one-requires returns-2)
