@@ -1,6 +1,7 @@
 // The density of a list: each net is counted once in the columns that it crosses.
 use crate::rules::terminal_at;
 ghost use mathlib.Core.Path.{_≡_};
+ghost use mathlib.Core.Bool.{cond};
 ghost use mathlib.Core.List.{_++_};
 ghost use Prim.Native.Nat.{ℕ, _+_, _≤_, _<_, min, max};
 ghost use lib.ListN.{length, getD, drop, replicate};
@@ -105,13 +106,19 @@ fn span_of(net: u16, nets: &[u16], columns: &[u8]) -> Span
     let mut right: u8 = 0;
     let mut i = 0;
     while i < nets.len() {
-        if nets[i] == net {
-            left = smaller(left, columns[i]);
-            right = larger(right, columns[i]);
-        }
+        let own = nets[i] == net;
+        // a pin of another net moves neither end
+        left = smaller(left, pick(own, columns[i], 255));
+        right = larger(right, pick(own, columns[i], 0));
         i += 1;
     }
     Span { left, right }
+}
+
+fn pick(yes: bool, a: u8, b: u8) -> u8
+    ensures { λ r. ⌜ r ≡ cond yes a b ⌝ }
+{
+    if yes { a } else { b }
 }
 
 fn smaller(a: u8, b: u8) -> u8

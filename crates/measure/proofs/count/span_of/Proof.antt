@@ -4,22 +4,21 @@
 use Prim.Native.Nat.{ℕ, _+_, _-_, _≤_, min, max}
 use mathlib.Core.Path.{_≡_, refl, sym, _∙_, ap, ap₂}
 use mathlib.Core.List.{List}
-use mathlib.Core.Logic.{⊎-elim}
+use mathlib.Core.Bool.{Bool, true, false, cond}
 use native.Mathlib.Omega.{arith}
 use borrow.Author.Needs.{needs}
 use lib.ListN.{length, drop, getD}
+use lib.Dec.{eqb}
+use Rattle.channel.specs.Density.{Pin}
 use Rattle.channel.specs.Spans.{endFrom, leftmost, rightmost}
 use Rattle.measure.specs.Inner.{pinsOf}
 use Rattle.measure.proofs.Sums.{end-more, end-past}
 use Rattle.measure.proofs.count.span_of.Statement.{statement}
-use mathlib.Core.Bool.{cond}
-use lib.Dec.{eqb}
-use borrow.Author.Tests.{eq-eqb, ne-eqb}
-use Rattle.channel.specs.Density.{Pin}
 use Rattle.measure.proofs.count.span_of.Tie as tie
 
 abbrev Inv-loop : tie.InvT-loop
 Inv-loop net nets columns left₀ right₀ i₀ left right i = (i ≤ length nets)
+    × (left ≤ 255)
     × (leftmost net (pinsOf nets columns) ≡ endFrom min left net (pinsOf (drop i nets) (drop i columns)))
     × (rightmost net (pinsOf nets columns) ≡ endFrom max right net (pinsOf (drop i nets) (drop i columns)))
 
@@ -28,38 +27,40 @@ abbrev μ-loop : tie.MeasureT-loop
 
 loop-holds : tie.Need-loop-holds Inv-loop μ-loop
 unfolding leftmost rightmost
-loop-holds c = (omega arith, refl, refl)
+loop-holds c = (omega arith, omega arith, refl, refl)
 
-mul-if1 : tie.Need-mul-if1 Inv-loop μ-loop
-mul-if1 c = omega arith
+mul-own : tie.Need-mul-own Inv-loop μ-loop
+mul-own c = omega arith
 
-shared-slice-read-if1 : tie.Need-shared-slice-read-if1 Inv-loop μ-loop
-shared-slice-read-if1 c = omega arith
+shared-slice-read-own : tie.Need-shared-slice-read-own Inv-loop μ-loop
+shared-slice-read-own c = omega arith
 
-shared-slice-read-smaller : tie.Need-shared-slice-read-smaller Inv-loop μ-loop
-shared-slice-read-smaller c = omega arith
+shared-slice-read-pick : tie.Need-shared-slice-read-pick Inv-loop μ-loop
+shared-slice-read-pick c = omega arith
+
+pick-requires : tie.Need-pick-requires Inv-loop μ-loop
+pick-requires c κs = search needs
 
 smaller-requires : tie.Need-smaller-requires Inv-loop μ-loop
 smaller-requires c κs = search needs
 
-shared-slice-read-larger : tie.Need-shared-slice-read-larger Inv-loop μ-loop
-shared-slice-read-larger c = omega arith
+shared-slice-read-pick-2 : tie.Need-shared-slice-read-pick-2 Inv-loop μ-loop
+shared-slice-read-pick-2 c = omega arith
+
+pick-requires-2 : tie.Need-pick-requires-2 Inv-loop μ-loop
+pick-requires-2 c κs = search needs
 
 larger-requires : tie.Need-larger-requires Inv-loop μ-loop
 larger-requires c κs = search needs
 
--- after a pin of the net each end is picked anew, and after any other it is kept
-moved : (d : tie.Joined1 Inv-loop μ-loop)
-    → let a = d .before .before .before .before .before .before .args in
-    let l = d .before .before .before .loop in
-    let own = eqb (getD (a .nets .now) (l .i) 0) (a .net) in
-    let column = getD (a .columns .now) (l .i) 0 in
-    (d .if1 .left ≡ cond own (min (l .left) column) (l .left)) × (d .if1 .right ≡ cond own (max (l .right) column) (l .right))
-moved d =
-    ⊎-elim
-    (λ w. (w .5 ∙ w .2 .ensures ∙ rw (eq-eqb _ _ (w .0 .taken)), w .6 ∙ w .4 .ensures ∙ rw (eq-eqb _ _ (w .0 .taken))))
-    (λ w. (w .1 ∙ rw (ne-eqb _ _ (w .0 .left)), w .2 ∙ rw (ne-eqb _ _ (w .0 .left))))
-    (d .if1 .came)
+-- a pin of the net picks each end anew, and any other keeps it
+left-kept : (own : Bool) (left column : ℕ) → left ≤ 255 → min left (cond own column 255) ≡ cond own (min left column) left
+left-kept true left column h = refl
+left-kept false left column h = omega arith
+
+right-kept : (own : Bool) (right column : ℕ) → max right (cond own column 0) ≡ cond own (max right column) right
+right-kept true right column = refl
+right-kept false right column = omega arith
 
 add-i : tie.Need-add-i Inv-loop μ-loop
 add-i c = omega arith
@@ -69,17 +70,25 @@ loop-less c = omega arith
 
 loop-again : tie.Need-loop-again Inv-loop μ-loop
 loop-again c =
-    let a = c .before .before .before .before .before .before .args in
-    let l = c .before .before .before .loop in
-    let inside = c .before .before .loop-test .taken in
-    let rest : List Pin = pinsOf (drop (l .i + 1) (a .nets .now)) (drop (l .i + 1) (a .columns .now)) in (
+    let at-smaller = c .before .before .before in
+    let at-loop-test = at-smaller .before .before .before .before in
+    let at-loop = at-loop-test .before in
+    let a = at-loop .before .before .before .args in
+    let l = at-loop .loop in
+    let inside = at-loop-test .loop-test .taken in
+    let own = eqb (getD (a .nets .now) (l .i) 0) (a .net) in
+    let column = getD (a .columns .now) (l .i) 0 in
+    let rest : List Pin = pinsOf (drop (l .i + 1) (a .nets .now)) (drop (l .i + 1) (a .columns .now)) in
+    let left = at-smaller .smaller .ensures ∙ ap (min (l .left)) (at-smaller .before .pick .ensures) in
+    let right = c .larger .ensures ∙ ap (max (l .right)) (c .before .pick2 .ensures) in (
       omega arith,
-      l .inv .1
-          ∙ end-more min (l .left) (a .net) (a .nets .now) (a .columns .now) (l .i) inside (omega arith)
-          ∙ ap (λ (k : ℕ). endFrom min k (a .net) rest) (sym (moved c .0)),
+      omega (arith, at-smaller .smaller .ensures, l .inv .1),
       l .inv .2
+          ∙ end-more min (l .left) (a .net) (a .nets .now) (a .columns .now) (l .i) inside (omega arith)
+          ∙ ap (λ (k : ℕ). endFrom min k (a .net) rest) (sym (left ∙ left-kept own (l .left) column (l .inv .1))),
+      l .inv .3
           ∙ end-more max (l .right) (a .net) (a .nets .now) (a .columns .now) (l .i) inside (omega arith)
-          ∙ ap (λ (k : ℕ). endFrom max k (a .net) rest) (sym (moved c .1)),
+          ∙ ap (λ (k : ℕ). endFrom max k (a .net) rest) (sym (right ∙ right-kept own (l .right) column)),
     )
 
 returns : tie.Need-returns Inv-loop μ-loop
@@ -87,8 +96,8 @@ returns c =
     let a = c .before .before .before .before .args in
     let l = c .before .loop in
     ap₂ (λ (x y : ℕ). record { left = x; right = y })
-    (sym (l .inv .1 ∙ end-past min (l .left) (a .net) (a .nets .now) (a .columns .now) (l .i) (c .loop-test .left)))
-    (sym (l .inv .2 ∙ end-past max (l .right) (a .net) (a .nets .now) (a .columns .now) (l .i) (c .loop-test .left)))
+    (sym (l .inv .2 ∙ end-past min (l .left) (a .net) (a .nets .now) (a .columns .now) (l .i) (c .loop-test .left)))
+    (sym (l .inv .3 ∙ end-past max (l .right) (a .net) (a .nets .now) (a .columns .now) (l .i) (c .loop-test .left)))
 
 pub span-of-spec : {M : Type 1} → statement M
 span-of-spec =
@@ -97,11 +106,13 @@ span-of-spec =
     Inv-loop
     μ-loop
     loop-holds
-    mul-if1
-    shared-slice-read-if1
-    shared-slice-read-smaller
+    mul-own
+    shared-slice-read-own
+    shared-slice-read-pick
+    pick-requires
     smaller-requires
-    shared-slice-read-larger
+    shared-slice-read-pick-2
+    pick-requires-2
     larger-requires
     add-i
     loop-less
