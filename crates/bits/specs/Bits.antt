@@ -2,7 +2,7 @@
 -- Assumes nothing.
 use Prim.Native.Nat.{ℕ, zero, suc, _-_, _/_, _%_, _^_}
 use mathlib.Core.Bool.{Bool, false, _&&_, _||_}
-use lib.Dec.{eqb}
+use lib.Dec.{ltb, eqb}
 
 -- the number k is in the set w
 unfoldable pub bitOf : ℕ → ℕ → Bool
@@ -20,3 +20,7 @@ inWord f = some 64 f
 -- k is reached from a number of w by a step of `by`
 unfoldable pub stepped : ℕ → ℕ → ℕ → Bool
 stepped w by k = some (suc k) (λ (y : ℕ). bitOf by (k - y) && bitOf w y)
+
+-- k is a number of w or less than `length` above one
+unfoldable pub covered : ℕ → ℕ → ℕ → Bool
+covered w length k = some (suc k) (λ (y : ℕ). ltb (k - y) length && bitOf w y)

@@ -4,7 +4,7 @@ ghost use mathlib.Core.Path.{_≡_};
 ghost use mathlib.Core.Bool.{true, false, _&&_, _||_};
 ghost use lib.Dec.{leb, ltb, eqb};
 ghost use lib.ListN.{length};
-ghost use Rattle.bits.specs.Bits.{bitOf, stepped};
+ghost use Rattle.bits.specs.Bits.{bitOf, stepped, covered};
 ghost use Rattle.bits.specs.Cells.{wordAt, putWord};
 
 // Whether k is in the set.
@@ -77,10 +77,37 @@ pub fn steps(w: u64, by: u64) -> u64
     if by == from(least) {
         return from(lowest(w) + least);
     }
+    closed(w, by, least)
+}
+
+// The same where `by` ends: most often it is a run from `least` on.
+fn closed(w: u64, by: u64, least: usize) -> u64
+    ensures { λ r. ⌜ ((n : ℕ) → n < 64 → bitOf r n ≡ stepped w by n) ⌝ }
+{
+    let end = 64 - u64::leading_zeros(by) as usize;
+    if least < end {
+        if by == both(from(least), below(end)) {
+            return spread(w, end - least) << least;
+        }
+    }
     one_by_one(w, by)
 }
 
-// The same for any `by`.
+// The numbers of w and those less than `length` above one, twice as many with each turn.
+fn spread(w: u64, length: usize) -> u64
+    requires { ⌜ (0 < length) × (length ≤ 64) ⌝ }
+    ensures { λ r. ⌜ ((n : ℕ) → n < 64 → bitOf r n ≡ covered w length n) ⌝ }
+{
+    let mut found = w;
+    let mut done: usize = 1;
+    while done + done <= length {
+        found = found | (found << done);
+        done = done + done;
+    }
+    found | (found << (length - done))
+}
+
+// The steps of any `by`.
 fn one_by_one(w: u64, by: u64) -> u64
     ensures { λ r. ⌜ ((n : ℕ) → n < 64 → bitOf r n ≡ stepped w by n) ⌝ }
 {

@@ -33,8 +33,8 @@ returns c = λ n h.
     ∙ stepped-open (args .w) (args .by) (low .result) (first .lowest .result) n h (low .ensures .1) (low .ensures .2)
     (λ m l. ap (λ (k : ℕ). bitOf k m) (test .if1 .taken) ∙ test .before .from .ensures m l)
 
-one-by-one-requires : tie.Need-one-by-one-requires
-one-by-one-requires c κs = search needs
+closed-requires : tie.Need-closed-requires
+closed-requires c κs = search needs
 
 returns-2 : tie.Need-returns-2
 returns-2 c = search needs
@@ -42,4 +42,4 @@ returns-2 c = search needs
 pub steps-spec : {M : Type 1} → statement M
 steps-spec =
     tie.close
-    (tie.spec lowest-requires from-requires lowest-requires-2 add-from from-requires-2 returns one-by-one-requires returns-2)
+    (tie.spec lowest-requires from-requires lowest-requires-2 add-from from-requires-2 returns closed-requires returns-2)

@@ -1,0 +1,61 @@
+-- `bits::closed` meets its contract.
+-- Assumes nothing.
+use Prim.Native.Nat.{ℕ, _-_}
+use mathlib.Core.Path.{_∙_, ap, ap₂}
+use mathlib.Core.Bool.{Bool, _&&_}
+use native.Mathlib.Omega.{arith}
+use lib.Count.{leadingZeros, leading-le}
+use lib.Dec.{leb}
+use Rattle.bits.specs.Bits.{bitOf}
+use Rattle.bits.proofs.Laws.{bit-shl, stepped-run}
+use borrow.Author.Needs.{needs}
+use Rattle.bits.proofs.closed.Statement.{statement}
+use Rattle.bits.proofs.closed.Tie as tie
+
+cast-end : tie.Need-cast-end
+cast-end c = omega (arith, leading-le 64 (c .args .by))
+
+sub-end : tie.Need-sub-end
+sub-end c = leading-le 64 (c .args .by)
+
+from-requires : tie.Need-from-requires
+from-requires c κs = search needs
+
+below-requires : tie.Need-below-requires
+below-requires c κs = search needs
+
+both-requires : tie.Need-both-requires
+both-requires c κs = search needs
+
+sub-spread : tie.Need-sub-spread
+sub-spread c = search needs
+
+spread-requires : tie.Need-spread-requires
+spread-requires c κs = search needs
+
+shl-result : tie.Need-shl-result
+shl-result c = search needs
+
+returns : tie.Need-returns
+returns c = λ n h.
+    let both = c .before .before in
+    let below = both .before in
+    let from = below .before in
+    let args = from .before .before .args in
+    bit-shl (c .spread .result) (args .least) n h
+    ∙ ap (λ (b : Bool). leb (args .least) n && b) (c .spread .ensures (n - args .least) (omega arith))
+    ∙ stepped-run (args .w) (args .by) (args .least) (64 - leadingZeros 64 (args .by)) n h
+    (λ m l.
+    ap (λ (k : ℕ). bitOf k m) (c .before .if2 .taken) ∙ both .both .ensures m
+    ∙ ap₂ (λ (a b : Bool). a && b) (from .from .ensures m l) (below .below .ensures m l))
+
+one-by-one-requires : tie.Need-one-by-one-requires
+one-by-one-requires c κs = search needs
+
+returns-2 : tie.Need-returns-2
+returns-2 c = search needs
+
+pub closed-spec : {M : Type 1} → statement M
+closed-spec =
+    tie.close
+    (tie.spec cast-end sub-end from-requires below-requires both-requires sub-spread spread-requires shl-result returns one-by-one-requires returns-2)

@@ -1,0 +1,51 @@
+-- `bits::spread` meets its contract. The loop's invariant: what is found is what is less than `done` above a number of w.
+-- Assumes nothing.
+use Prim.Native.Nat.{ℕ, _-_, _≤_, _<_}
+use mathlib.Core.Path.{_≡_, _∙_, ap}
+use native.Mathlib.Omega.{arith}
+use Rattle.bits.specs.Bits.{bitOf, covered}
+use Rattle.bits.proofs.Laws.{covered-one, spread-more}
+use Rattle.bits.proofs.spread.Statement.{statement}
+use Rattle.bits.proofs.spread.Tie as tie
+
+abbrev Inv-loop : tie.InvT-loop
+Inv-loop w length found₀ done₀ found done = (1 ≤ done) × (done ≤ length) × ((n : ℕ) → n < 64 → bitOf found n ≡ covered w done n)
+
+abbrev μ-loop : tie.MeasureT-loop
+μ-loop w length found₀ done₀ found done = length - done
+
+loop-holds : tie.Need-loop-holds Inv-loop μ-loop
+loop-holds c = (omega arith, omega arith, λ n h. covered-one (c .args .w) n)
+
+add-loop : tie.Need-add-loop Inv-loop μ-loop
+add-loop c = omega arith
+
+shl-found : tie.Need-shl-found Inv-loop μ-loop
+shl-found c = omega arith
+
+add-done : tie.Need-add-done Inv-loop μ-loop
+add-done c = omega arith
+
+loop-less : tie.Need-loop-less Inv-loop μ-loop
+loop-less c = omega arith
+
+loop-again : tie.Need-loop-again Inv-loop μ-loop
+loop-again c =
+    let l = c .before .loop in
+    (omega arith, omega arith, λ n h. spread-more (c .before .before .args .w) (l .found) (l .done) (l .done) n h (omega arith) (l .inv .2))
+
+sub-result : tie.Need-sub-result Inv-loop μ-loop
+sub-result c = omega arith
+
+shl-result : tie.Need-shl-result Inv-loop μ-loop
+shl-result c = omega arith
+
+returns : tie.Need-returns Inv-loop μ-loop
+returns c = λ n h.
+    let l = c .before .loop in
+    let args = c .before .before .args in
+    spread-more (args .w) (l .found) (l .done) (args .length - l .done) n h (omega arith) (l .inv .2) ∙ ap (λ (a : ℕ). covered (args .w) a n) (omega arith)
+
+pub spread-spec : {M : Type 1} → statement M
+spread-spec =
+    tie.close (tie.spec Inv-loop μ-loop loop-holds add-loop shl-found add-done loop-less loop-again sub-result shl-result returns)
