@@ -14,8 +14,6 @@ use Rattle.sheet.specs.declared.Refusal.{Refusal}
 use Rattle.sheet.specs.declared.Entry.the-variants.{Terminal as Found, Nothing}
 use Rattle.sheet.specs.declared.format.Part.{Part}
 use Rattle.sheet.specs.declared.format.Trailer.{Trailer}
-use Rattle.sheet.specs.declared.parts.IfSound.{IfSound}
-use Rattle.sheet.specs.declared.parts.IfSound.the-variants.{Trailer as Open, Refused as Closed}
 use Rattle.sheet.specs.declared.Side.{Side}
 use Rattle.sheet.specs.declared.Side.the-variants.{Top, Bottom}
 use Rattle.sheet.specs.Refusals.{numberOf}
@@ -23,35 +21,8 @@ use Rattle.sheet.specs.Format.{little, recordOf, terminalAt, terminalsFr
 use Rattle.sheet.specs.Check.{terminalsOf, checkOf}
 use Rattle.sheet.specs.Read.{Read, readAs, sheetOf, read}
 use Rattle.sheet.specs.Read.Read.{sound, refused}
-use Rattle.sheet.specs.Parts.{trailerIf, soundTrailer, noShape, shape, shapeOf, bytesOf, sectionOf, nth, entryOf, terminalsIn, entryIn, sideOf, entryAs, entryAt}
+use Rattle.sheet.specs.Parts.{noShape, shape, shapeOf, bytesOf, sectionOf, nth, entryOf, terminalsIn, entryIn, sideOf, entryAs, entryAt}
 use Rattle.sheet.proofs.Checks.{Formed, whole}
-
--- of a sound sheet the trailer is given, and of no other
-pub open-sound : (b : List ℕ) (t : Trailer) → soundTrailer b ≡ Open t → (checkOf b ≡ Sound) × (t ≡ trailerOf b)
-unfolding soundTrailer
-open-sound b t h = by-check (checkOf b) refl h
-  where
-    by-check : (r : Checked) → checkOf b ≡ r → trailerIf b r ≡ Open t → (checkOf b ≡ Sound) × (t ≡ trailerOf b)
-    by-check Sound e h = (e, cc)
-    by-check (Refused why) e h = let z : _≡_ {A = ℕ} 0 1 = cc in absurd (omega arith)
-
-pub closed-refused : (b : List ℕ) → soundTrailer b ≡ Closed → (why : Refusal) × (checkOf b ≡ Refused why)
-unfolding soundTrailer
-closed-refused b h = by-check (checkOf b) refl h
-  where
-    by-check : (r : Checked) → checkOf b ≡ r → trailerIf b r ≡ Closed → (why : Refusal) × (checkOf b ≡ Refused why)
-    by-check Sound e h = let z : _≡_ {A = ℕ} 0 1 = cc in absurd (omega arith)
-    by-check (Refused why) e h = (why, e)
-
--- the trailer given, where the check's answer r is known
-module _ (b : List ℕ) (r : Checked) (answer : r ≡ checkOf b) where
-  pub refused-closed : (why : Refusal) → r ≡ Refused why → Closed ≡ soundTrailer b
-  unfolding soundTrailer
-  refused-closed why e = rw (sym answer ∙ e)
-
-  pub sound-open : (t : Trailer) → t ≡ trailerOf b → r ≡ Sound → Open t ≡ soundTrailer b
-  unfolding soundTrailer
-  sound-open t trailer e = rw (sym answer ∙ e) (ap Open trailer)
 
 -- there are as many records as asked for
 pub length-terminals : (b : List ℕ) (i n : ℕ) → length (terminalsFrom b i n) ≡ n
@@ -132,47 +103,44 @@ module _ (b : List ℕ) (place : ℕ) (some : place ≡ 0 → ⊥) where
   unfolding entryIn
   entry-nothing h = sym (entry-at _ place some ∙ nth-past (terminalsFrom b 0 (length b / 12)) (place - 1) (rw length-terminals h))
 
--- what is said of a sheet whose trailer r is given
-module _ (b : List ℕ) (r : IfSound) (answer : r ≡ soundTrailer b) where
-  module _ (closed : r ≡ Closed) where
-    pub closed-read : (n : ℕ) × (read b ≡ refused n)
-    unfolding read
-    closed-read =
-        let (why, e) = closed-refused b (sym answer ∙ closed) in
-        (numberOf why, ap (readAs (sheetOf b)) e)
+-- what is said of a refused sheet
+module _ (b : List ℕ) (why : Refusal) (refuses : checkOf b ≡ Refused why) where
+  refused-read : read b ≡ refused (numberOf why)
+  unfolding read
+  refused-read = ap (readAs (sheetOf b)) refuses
 
-    pub closed-section : (side : Side) → [] ≡ sectionOf b side
-    unfolding sectionOf
-    closed-section side = rw (sym answer ∙ closed)
+  pub refused-section : (side : Side) → [] ≡ sectionOf b side
+  unfolding sectionOf
+  refused-section side = rw refuses
 
-    pub closed-shape : noShape ≡ shapeOf b
-    unfolding shapeOf
-    closed-shape = rw (closed-read .1)
+  pub refused-shape : noShape ≡ shapeOf b
+  unfolding shapeOf
+  refused-shape = rw refused-read
 
-  module _ (t : Trailer) (opened : r ≡ Open t) where
-    pub open-read : read b ≡ sound (sheetOf b)
-    unfolding read
-    open-read = ap (readAs (sheetOf b)) (open-sound b t (sym answer ∙ opened) .0)
+-- and of a sound one, whose trailer is t
+module _ (b : List ℕ) (sounds : checkOf b ≡ Sound) where
+  pub sound-read : read b ≡ sound (sheetOf b)
+  unfolding read
+  sound-read = ap (readAs (sheetOf b)) sounds
 
-    open-trailer : t ≡ trailerOf b
-    open-trailer = open-sound b t (sym answer ∙ opened) .1
+  pub sound-form : Formed b
+  sound-form = whole b sounds .form
 
-    open-form : Formed b
-    open-form = whole b (open-sound b t (sym answer ∙ opened) .0) .form
+  module _ (t : Trailer) (trailer : t ≡ trailerOf b) where
+    pub sound-limits : (t .columns ≤ 64) × (t .top .count ≤ 64) × (t .bottom .count ≤ 64)
+    sound-limits = rw trailer (sound-form .columns .1, sound-form .count Top, sound-form .count Bottom)
 
-    pub open-limits : (t .columns ≤ 64) × (t .top .count ≤ 64) × (t .bottom .count ≤ 64)
-    open-limits = rw open-trailer (open-form .columns .1, open-form .count Top, open-form .count Bottom)
-
-    pub open-room : (side : Side) (part : Part) → part ≡ partOf t side → part .at + 12 * part .count ≤ length b
-    open-room side part e = rw (e, open-trailer) (open-form .room side)
-
-    pub open-section : (side : Side) (part : Part) → part ≡ partOf t side → bytesOf b part ≡ sectionOf b side
-    unfolding sectionOf
-    open-section side part e = rw (sym answer ∙ opened, e)
-
-    pub open-shape : shape (t .columns) (t .top .count) (t .bottom .count) ≡ shapeOf b
+    pub sound-shape : shape (t .columns) (t .top .count) (t .bottom .count) ≡ shapeOf b
     unfolding shapeOf sheetOf
-    open-shape = rw (open-read, open-trailer) (simp length-terminals)
+    sound-shape = rw (sound-read, trailer) (simp length-terminals)
+
+    module _ (side : Side) (part : Part) (e : part ≡ partOf t side) where
+      pub sound-room : part .at + 12 * part .count ≤ length b
+      sound-room = rw (e, trailer) (sound-form .room side)
+
+      pub sound-section : bytesOf b part ≡ sectionOf b side
+      unfolding sectionOf
+      sound-section = rw (sounds, e, trailer)
 
 -- a side's terminals are those of its part
 pub side-terminals : (b : List ℕ) (side : Side) → terminalsOf b (partOf (trailerOf b) side) ≡ terminals (sheetOf b) (sideOf side)
@@ -187,15 +155,14 @@ sideAs side (refused n) = []
 
 section-records : (b : List ℕ) (side : Side) → terminalsIn (sectionOf b side) ≡ sideAs side (read b)
 unfolding terminalsFrom sideAs
-section-records b side = by-trailer (soundTrailer b) refl
+section-records b side = by-check (checkOf b) refl
   where
-    by-trailer : (r : IfSound) → r ≡ soundTrailer b → terminalsIn (sectionOf b side) ≡ sideAs side (read b)
-    by-trailer Closed answer = rw (← closed-section b Closed answer refl side, closed-read b Closed answer refl .1)
-    by-trailer (Open t) answer =
-        rw (← open-section b (Open t) answer t refl side (partOf t side) refl, open-read b (Open t) answer t refl)
-        (terminals-in-part b (partOf t side) (open-room b (Open t) answer t refl side (partOf t side) refl)
-        ∙ ap (λ (u : Trailer). terminalsOf b (partOf u side)) (open-trailer b (Open t) answer t refl)
-        ∙ side-terminals b side)
+    by-check : (r : Checked) → checkOf b ≡ r → terminalsIn (sectionOf b side) ≡ sideAs side (read b)
+    by-check (Refused why) e = rw (← refused-section b why e side, refused-read b why e)
+    by-check Sound e =
+        let part = partOf (trailerOf b) side in
+        rw (← sound-section b e (trailerOf b) refl side part refl, sound-read b e)
+        (terminals-in-part b part (sound-room b e (trailerOf b) refl side part refl) ∙ side-terminals b side)
 
 pub section-terminals : (b : List ℕ) (s : Sheet) → read b ≡ sound s → (side : Side) → terminalsIn (sectionOf b side) ≡ terminals s (sideOf side)
 unfolding sideAs

@@ -12,21 +12,11 @@ use Rattle.sheet.specs.declared.Entry.the-variants.{Terminal as Found, N
 use Rattle.sheet.specs.declared.Shape.{Shape}
 use Rattle.sheet.specs.declared.Side.{Side}
 use Rattle.sheet.specs.declared.Side.the-variants.{Top, Bottom}
-use Rattle.sheet.specs.declared.parts.IfSound.{IfSound}
-use Rattle.sheet.specs.declared.parts.IfSound.the-variants.{Trailer as Open, Refused as Closed}
 use Rattle.sheet.specs.declared.format.Part.{Part}
 use Rattle.sheet.specs.Format.{recordSize, recordOf, terminalsFrom, trailerOf, partOf}
 use Rattle.sheet.specs.Check.{checkOf}
 use Rattle.sheet.specs.Read.{Read, read}
 use Rattle.sheet.specs.Read.Read.{sound, refused}
-
--- the trailer of a sound sheet
-abbrev pub trailerIf : List ℕ → Checked → IfSound
-trailerIf b Sound = Open (trailerOf b)
-trailerIf b (Refused why) = Closed
-
-unfoldable pub soundTrailer : List ℕ → IfSound
-soundTrailer b = trailerIf b (checkOf b)
 
 -- "a column buffer of at least p+q bytes, and a work buffer of at least (p+1)(q+1)(L+1)² 16-bit cells"
 abbrev pub cellsOf : ℕ → ℕ → ℕ → ℕ
@@ -56,12 +46,12 @@ shapeOf b = shapeAs (read b)
 abbrev pub bytesOf : List ℕ → Part → List ℕ
 bytesOf b part = take (recordSize * part .count) (drop (part .at) b)
 
-abbrev pub sectionAs : List ℕ → Side → IfSound → List ℕ
-sectionAs b side (Open t) = bytesOf b (partOf t side)
-sectionAs b side Closed = []
+abbrev pub sectionAs : List ℕ → Side → Checked → List ℕ
+sectionAs b side Sound = bytesOf b (partOf (trailerOf b) side)
+sectionAs b side (Refused why) = []
 
 unfoldable pub sectionOf : List ℕ → Side → List ℕ
-sectionOf b side = sectionAs b side (soundTrailer b)
+sectionOf b side = sectionAs b side (checkOf b)
 
 -- the record at a place, from 1
 abbrev pub nth : List Terminal → ℕ → Entry

@@ -11,6 +11,8 @@ pub use parts::record_at;
 pub use parts::record_in;
 pub use parts::section;
 pub use parts::shape_of;
+pub use parts::sound_section;
+pub use parts::sound_shape;
 pub use refusals::number_of;
 pub use soundness::check;
 pub use terminal::allows;

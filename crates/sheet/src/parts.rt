@@ -3,37 +3,21 @@ use crate::Checked;
 use crate::Entry;
 use crate::Shape;
 use crate::Side;
-use crate::format::Trailer;
 use crate::format::part_of;
 use crate::format::read_record;
 use crate::format::read_trailer;
 use crate::soundness::check;
 ghost use mathlib.Core.Path.{_≡_};
 ghost use Prim.Native.Nat.{_≤_};
-ghost use Rattle.sheet.specs.Parts.{soundTrailer, cellsOf, shapeOf, sectionOf, entryIn, entryAt};
-
-// The trailer of a sound sheet, and nothing of a refused one.
-pub enum IfSound {
-    Trailer(Trailer),
-    Refused,
-}
-
-pub fn sound_trailer(s: &[u8]) -> IfSound
-    ensures { λ r. ⌜ r ≡ soundTrailer (now (s .entry)) ⌝ }
-{
-    let checked = check(s);
-    let Checked::Sound = checked else {
-        return IfSound::Refused;
-    };
-    IfSound::Trailer(read_trailer(s))
-}
+ghost use Rattle.sheet.specs.Check.{checkOf};
+ghost use Rattle.sheet.specs.Parts.{cellsOf, shapeOf, sectionOf, entryIn, entryAt};
 
 // The shape of a sound sheet, and all 0 for a refused one.
 pub fn shape_of(s: &[u8]) -> Shape
     ensures { λ r. ⌜ r ≡ shapeOf (now (s .entry)) ⌝ }
 {
-    let found = sound_trailer(s);
-    let IfSound::Trailer(t) = found else {
+    let checked = check(s);
+    let Checked::Sound = checked else {
         return Shape {
             columns: 0,
             top: 0,
@@ -42,6 +26,15 @@ pub fn shape_of(s: &[u8]) -> Shape
             pins: 0,
         };
     };
+    sound_shape(s)
+}
+
+// The same of a sheet that is known to be sound, without a second check.
+pub fn sound_shape(s: &[u8]) -> Shape
+    requires { ⌜ checkOf (now s) ≡ Checked.Sound ⌝ }
+    ensures { λ r. ⌜ r ≡ shapeOf (now (s .entry)) ⌝ }
+{
+    let t = read_trailer(s);
     let columns = t.columns;
     let p = t.top.count;
     let q = t.bottom.count;
@@ -68,11 +61,19 @@ fn cells_needed(columns: usize, p: usize, q: usize) -> usize
 pub fn section(s: &[u8], side: Side) -> &[u8]
     ensures { λ r. ⌜ now r ≡ sectionOf (now (s .entry)) side ⌝ }
 {
-    let found = sound_trailer(s);
-    let IfSound::Trailer(t) = found else {
+    let checked = check(s);
+    let Checked::Sound = checked else {
         return &s[..0];
     };
-    let part = part_of(t, side);
+    sound_section(s, side)
+}
+
+// The same of a sheet that is known to be sound, without a second check.
+pub fn sound_section(s: &[u8], side: Side) -> &[u8]
+    requires { ⌜ checkOf (now s) ≡ Checked.Sound ⌝ }
+    ensures { λ r. ⌜ now r ≡ sectionOf (now (s .entry)) side ⌝ }
+{
+    let part = part_of(read_trailer(s), side);
     let at = part.at;
     let end = at + 12 * part.count;
     &s[at..end]
