@@ -21,10 +21,10 @@ use Rattle.sheet.specs.declared.Shape.{Shape}
 use Rattle.sheet.specs.declared.Side.{Side}
 use Rattle.sheet.specs.declared.Side.the-variants.{Top, Bottom}
 use Rattle.sheet.specs.Check.{checkOf}
-use Rattle.sheet.specs.Read.{readAs, sheetOf, read}
+use Rattle.sheet.specs.Read.{sheetOf}
 use Rattle.sheet.specs.Read.Read.{sound}
 use Rattle.sheet.specs.Parts.{shapeAs, shapeOf, sectionOf, terminalsIn, sideOf}
-use Rattle.sheet.proofs.Sections.{section-terminals}
+use Rattle.sheet.proofs.Sections.{sound-read, section-terminals}
 use Rattle.sheet.proofs.Sounds.{read-sound}
 use Rattle.measure.specs.declared.Measured.{Measured}
 use Rattle.measure.specs.declared.Measured.the-variants.{Density, Sheet as Unsound, Count, Allowed, Distance}
@@ -104,18 +104,14 @@ unfolding measuredOf
 sheet-refused b cs r answer why e = rw (sym answer ∙ e)
 
 -- and of bytes that it leaves, with their shape
-module _ (b cs : List ℕ) (r : Checked) (answer : r ≡ checkOf b) (passed : r ≡ Sound) (form : Shape) (shaped : form ≡ shapeOf b) where
-  sound-read : read b ≡ sound (sheetOf b)
-  unfolding read
-  sound-read = ap (readAs (sheetOf b)) (sym answer ∙ passed)
-
+module _ (b cs : List ℕ) (sounds : checkOf b ≡ Sound) (form : Shape) (shaped : form ≡ shapeOf b) where
   sound-shape : form ≡ shapeAs (sound (sheetOf b))
   unfolding shapeOf
-  sound-shape = shaped ∙ ap shapeAs sound-read
+  sound-shape = shaped ∙ ap shapeAs (sound-read b sounds)
 
   sound-measured : measuredOf b cs ≡ sheetMeasured (sheetOf b) cs
   unfolding measuredOf
-  sound-measured = rw (sym answer ∙ passed)
+  sound-measured = rw sounds
 
   pins-counted : form .pins ≡ length (sheetOf b .top) + length (sheetOf b .bottom)
   pins-counted = ap (λ (f : Shape). f .pins) sound-shape
@@ -130,7 +126,7 @@ module _ (b cs : List ℕ) (r : Checked) (answer : r ≡ checkOf b) (passed : r 
 
   -- a section has its side's terminals
   part-terminals : (side : Side) (part : List ℕ) → part ≡ sectionOf b side → terminalsIn part ≡ terminals (sheetOf b) (sideOf side)
-  part-terminals side part e = ap terminalsIn e ∙ section-terminals b (sheetOf b) sound-read side
+  part-terminals side part e = ap terminalsIn e ∙ section-terminals b (sheetOf b) (sound-read b sounds) side
 
   columns-counted : form .columns ≡ sheetOf b .columns
   columns-counted = ap (λ (f : Shape). f .columns) sound-shape
@@ -140,7 +136,7 @@ module _ (b cs : List ℕ) (r : Checked) (answer : r ≡ checkOf b) (passed : r 
       (isBottom : bottom ≡ sectionOf b Bottom) where
     pub laid : Laid top bottom cs (form .top) (form .columns)
     laid =
-        let s = read-sound b (sheetOf b) sound-read in
+        let s = read-sound b (sheetOf b) (sound-read b sounds) in
         let p : form .top ≡ length (sheetOf b .top) = ap (λ (f : Shape). f .top) sound-shape in
         let ts : length (terminalsIn top) ≡ length (sheetOf b .top) = ap length (part-terminals Top top isTop) in
         let us : length (terminalsIn bottom) ≡ length (sheetOf b .bottom) = ap length (part-terminals Bottom bottom isBottom) in

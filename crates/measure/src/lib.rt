@@ -34,12 +34,12 @@ pub fn measure(s: &[u8], columns: &[u8]) -> Measured
     match checked {
         Checked::Refused(why) => Measured::Sheet(why),
         Checked::Sound => {
-            let shape = sheet::shape_of(s);
+            let shape = sheet::sound_shape(s);
             if columns.len() != shape.pins {
                 return Measured::Count;
             }
-            let top = sheet::section(s, Side::Top);
-            let bottom = sheet::section(s, Side::Bottom);
+            let top = sheet::sound_section(s, Side::Top);
+            let bottom = sheet::sound_section(s, Side::Bottom);
             measure_list(top, bottom, columns, shape.top, shape.columns)
         }
     }

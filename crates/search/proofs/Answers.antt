@@ -15,10 +15,10 @@ use Rattle.sheet.specs.declared.Refusal.{Refusal}
 use Rattle.sheet.specs.declared.Shape.{Shape}
 use Rattle.sheet.specs.declared.Side.the-variants.{Top, Bottom}
 use Rattle.sheet.specs.Check.{checkOf}
-use Rattle.sheet.specs.Read.{readAs, sheetOf, read}
+use Rattle.sheet.specs.Read.{sheetOf, read}
 use Rattle.sheet.specs.Read.Read.{sound}
 use Rattle.sheet.specs.Parts.{shape, shapeAs, shapeOf, sectionOf, terminalsIn}
-use Rattle.sheet.proofs.Sections.{section-terminals}
+use Rattle.sheet.proofs.Sections.{sound-read, section-terminals}
 use Rattle.sheet.proofs.Sounds.{read-sound}
 use Rattle.search.specs.declared.Searched.{Searched}
 use Rattle.search.specs.declared.Searched.the-variants as searched
@@ -47,10 +47,9 @@ module _ (b columns work : List ℕ) where
   answers-sheet r why e f = answered columns work _ (rw (sym e ∙ f)) refl refl
 
   -- a sound sheet, with its shape
-  module _ (c : Checked) (n : Shape) (checks : c ≡ checkOf b) (sounds : c ≡ checked.Sound) (shapes : n ≡ shapeOf b) where
+  module _ (n : Shape) (sounds : checkOf b ≡ checked.Sound) (shapes : n ≡ shapeOf b) where
     reads : read b ≡ sound (sheetOf b)
-    unfolding read
-    reads = ap (readAs (sheetOf b)) (sym checks ∙ sounds)
+    reads = sound-read b sounds
 
     numbers : n ≡ shape (sheetOf b .columns) (length (sheetOf b .top)) (length (sheetOf b .bottom))
     unfolding shapeOf
@@ -58,7 +57,7 @@ module _ (b columns work : List ℕ) where
 
     answers : (k m : ℕ) → searchedOf b k m ≡ answerIn (sheetOf b) k m
     unfolding searchedOf
-    answers k m = ap (λ (r : Checked). answerIf r (sheetOf b) k m) (sym checks ∙ sounds)
+    answers k m = ap (λ (r : Checked). answerIf r (sheetOf b) k m) sounds
 
     pins : n .pins ≡ pinsNeeded (sheetOf b)
     pins = ap (λ (k : Shape). k .pins) numbers

@@ -37,15 +37,15 @@ pub fn search(s: &[u8], columns: &mut [u8], work: &mut [u16]) -> Searched
     if let Checked::Refused(why) = checked {
         return Searched::Sheet(why);
     }
-    let shape = sheet::shape_of(s);
+    let shape = sheet::sound_shape(s);
     if columns.len() < shape.pins {
         return Searched::Columns;
     }
     if work.len() < shape.cells {
         return Searched::Cells;
     }
-    let top = sheet::section(s, Side::Top);
-    let bottom = sheet::section(s, Side::Bottom);
+    let top = sheet::sound_section(s, Side::Top);
+    let bottom = sheet::sound_section(s, Side::Bottom);
     let outcome = solve::solve(top, bottom, shape, columns, work);
     pass::clear(work, shape.cells);
     match outcome {

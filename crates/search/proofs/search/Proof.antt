@@ -1,5 +1,8 @@
 -- `search::search` meets its contract: each way out keeps the promise.
 -- Assumes nothing.
+use mathlib.Core.Path.{_≡_, sym, _∙_}
+use Rattle.sheet.specs.declared.Checked.the-variants.{Sound}
+use Rattle.sheet.specs.Check.{checkOf}
 use Rattle.search.proofs.Answers.{answers-sheet, answers-columns, answers-cells, solve-asked, answers-found, answers-none}
 use borrow.Author.Needs.{needs}
 use Rattle.search.proofs.search.Statement.{statement}
@@ -21,47 +24,46 @@ returns c =
 enum-told : tie.Need-enum-told
 enum-told c = search needs
 
-shape-of-requires : tie.Need-shape-of-requires
-shape-of-requires c κs = search needs
+-- the one check holds for every later call
+sounds : (c : tie.After-enum-told) → checkOf (c .before .before .before .before .before .before .args .s .now) ≡ Sound
+sounds c = sym (c .before .before .check .ensures) ∙ c .enum-told .given .1
+
+sound-shape-requires : tie.Need-sound-shape-requires
+sound-shape-requires c κs = sounds c
 
 returns-2 : tie.Need-returns-2
 returns-2 c =
-    let at-enum-told = c .before .before .before in
-    let at-check = at-enum-told .before .before in
-    let start = at-check .before .before .before .before in
-    let a = start .args in
-    answers-columns (a .s .now) (a .columns .now) (a .work .now) _ (c .before .before .shape-of .result) (at-check .check .ensures)
-    (at-enum-told .enum-told .given .1) (c .before .before .shape-of .ensures) (c .if1 .taken)
+    let at-sound-shape = c .before .before in
+    let at-enum-told = at-sound-shape .before in
+    let a = at-enum-told .before .before .before .before .before .before .args in
+    answers-columns (a .s .now) (a .columns .now) (a .work .now) (at-sound-shape .sound-shape .result) (sounds at-enum-told)
+    (at-sound-shape .sound-shape .ensures) (c .if1 .taken)
 
 returns-3 : tie.Need-returns-3
 returns-3 c =
-    let at-shape-of = c .before .before .before .before in
-    let at-enum-told = at-shape-of .before in
-    let at-check = at-enum-told .before .before in
-    let start = at-check .before .before .before .before in
-    let a = start .args in
-    answers-cells (a .s .now) (a .columns .now) (a .work .now) _ (at-shape-of .shape-of .result) (at-check .check .ensures)
-    (at-enum-told .enum-told .given .1) (at-shape-of .shape-of .ensures) (c .before .before .if1 .left) (c .if2 .taken)
+    let at-sound-shape = c .before .before .before .before in
+    let at-enum-told = at-sound-shape .before in
+    let a = at-enum-told .before .before .before .before .before .before .args in
+    answers-cells (a .s .now) (a .columns .now) (a .work .now) (at-sound-shape .sound-shape .result) (sounds at-enum-told)
+    (at-sound-shape .sound-shape .ensures) (c .before .before .if1 .left) (c .if2 .taken)
 
-section-requires : tie.Need-section-requires
-section-requires c κs = search needs
+sound-section-requires : tie.Need-sound-section-requires
+sound-section-requires c κs = sounds (c .before .before .before .before .before)
 
-section-requires-2 : tie.Need-section-requires-2
-section-requires-2 c κs = search needs
+sound-section-requires-2 : tie.Need-sound-section-requires-2
+sound-section-requires-2 c κs = sounds (c .before .before .before .before .before .before)
 
 solve-requires : tie.Need-solve-requires
 solve-requires c κs =
-    let at-section = c .before .before .before in
-    let at-if2 = at-section .before in
+    let at-sound-section = c .before .before .before in
+    let at-if2 = at-sound-section .before in
     let at-if1 = at-if2 .before .before in
-    let at-shape-of = at-if1 .before .before in
-    let at-enum-told = at-shape-of .before in
-    let at-check = at-enum-told .before .before in
-    let start = at-check .before .before .before .before in
-    let a = start .args in
-    solve-asked (a .s .now) (a .columns .now) (a .work .now) _ (at-shape-of .shape-of .result) (at-check .check .ensures)
-    (at-enum-told .enum-told .given .1) (at-shape-of .shape-of .ensures) _ _ (at-section .section .ensures)
-    (c .before .before .section2 .ensures) (at-if1 .if1 .left) (at-if2 .if2 .left)
+    let at-sound-shape = at-if1 .before .before in
+    let at-enum-told = at-sound-shape .before in
+    let a = at-enum-told .before .before .before .before .before .before .args in
+    solve-asked (a .s .now) (a .columns .now) (a .work .now) (at-sound-shape .sound-shape .result) (sounds at-enum-told)
+    (at-sound-shape .sound-shape .ensures) _ _ (at-sound-section .sound-section .ensures)
+    (c .before .before .sound-section2 .ensures) (at-if1 .if1 .left) (at-if2 .if2 .left)
 
 clear-requires : tie.Need-clear-requires
 clear-requires c κs = search needs
@@ -82,17 +84,15 @@ returns-4 : tie.Need-returns-4
 returns-4 c =
     let at-clear = c .before .before .before .before .before in
     let at-solve = at-clear .before .before .before .before .before .before in
-    let at-section2 = at-solve .before .before .before in
-    let at-section = at-section2 .before in
-    let at-if2 = at-section .before in
+    let at-sound-section2 = at-solve .before .before .before in
+    let at-sound-section = at-sound-section2 .before in
+    let at-if2 = at-sound-section .before in
     let at-if1 = at-if2 .before .before in
-    let at-shape-of = at-if1 .before .before in
-    let at-enum-told = at-shape-of .before in
-    let at-check = at-enum-told .before .before in
-    let start = at-check .before .before .before .before in
-    let a = start .args in
-    answers-found (a .s .now) (a .columns .now) (a .work .now) _ (at-shape-of .shape-of .result) (at-check .check .ensures)
-    (at-enum-told .enum-told .given .1) (at-shape-of .shape-of .ensures) _ _ (at-section .section .ensures) (at-section2 .section2 .ensures)
+    let at-sound-shape = at-if1 .before .before in
+    let at-enum-told = at-sound-shape .before in
+    let a = at-enum-told .before .before .before .before .before .before .args in
+    answers-found (a .s .now) (a .columns .now) (a .work .now) (at-sound-shape .sound-shape .result) (sounds at-enum-told)
+    (at-sound-shape .sound-shape .ensures) _ _ (at-sound-section .sound-section .ensures) (at-sound-section2 .sound-section2 .ensures)
     (at-if1 .if1 .left) (at-if2 .if2 .left) _ _ _ _ (at-solve .solve .ensures) (at-clear .clear .ensures) _ (c .before .outcome .given .1)
 
 same-length-3 : tie.Need-same-length-3
@@ -105,17 +105,15 @@ returns-5 : tie.Need-returns-5
 returns-5 c =
     let at-clear = c .before .before .before .before in
     let at-solve = at-clear .before .before .before .before .before .before in
-    let at-section2 = at-solve .before .before .before in
-    let at-section = at-section2 .before in
-    let at-if2 = at-section .before in
+    let at-sound-section2 = at-solve .before .before .before in
+    let at-sound-section = at-sound-section2 .before in
+    let at-if2 = at-sound-section .before in
     let at-if1 = at-if2 .before .before in
-    let at-shape-of = at-if1 .before .before in
-    let at-enum-told = at-shape-of .before in
-    let at-check = at-enum-told .before .before in
-    let start = at-check .before .before .before .before in
-    let a = start .args in
-    answers-none (a .s .now) (a .columns .now) (a .work .now) _ (at-shape-of .shape-of .result) (at-check .check .ensures)
-    (at-enum-told .enum-told .given .1) (at-shape-of .shape-of .ensures) _ _ (at-section .section .ensures) (at-section2 .section2 .ensures)
+    let at-sound-shape = at-if1 .before .before in
+    let at-enum-told = at-sound-shape .before in
+    let a = at-enum-told .before .before .before .before .before .before .args in
+    answers-none (a .s .now) (a .columns .now) (a .work .now) (at-sound-shape .sound-shape .result) (sounds at-enum-told)
+    (at-sound-shape .sound-shape .ensures) _ _ (at-sound-section .sound-section .ensures) (at-sound-section2 .sound-section2 .ensures)
     (at-if1 .if1 .left) (at-if2 .if2 .left) _ _ _ _ (at-solve .solve .ensures) (at-clear .clear .ensures) (c .enum-told2 .given .1)
 
 pub search-spec : {M : Type 1} → statement M
@@ -126,11 +124,11 @@ search-spec =
     enum-known-checked
     returns
     enum-told
-    shape-of-requires
+    sound-shape-requires
     returns-2
     returns-3
-    section-requires
-    section-requires-2
+    sound-section-requires
+    sound-section-requires-2
     solve-requires
     clear-requires
     enum-known-outcome
