@@ -1,10 +1,10 @@
--- Why no bound below the lower bound places the pins: a place that is reached under a bound was reached from the planes before it,
--- and its load is within the bound.
+-- Laws of the lower bound: how it comes from those before it, why no bound below it places the pins (a place that is reached under a
+-- bound was reached from the planes before it, and its load is within the bound), and the row of it that the code keeps.
 -- Assumes nothing.
 use Prim.Native.Nat.{ℕ, zero, suc, _+_, _-_, _≤_, _<_, min, max}
 use mathlib.Core.Path.{_≡_, refl, sym, _∙_, ap}
 use mathlib.Core.List.{List}
-use mathlib.Core.Bool.{Bool, true, false, _&&_, _||_, and-false}
+use mathlib.Core.Bool.{Bool, true, false, _&&_, and-false}
 use mathlib.Core.Logic.{_⊎_, inl, inr}
 use native.Mathlib.Omega.{arith}
 use lib.ListN.{length, getD, set, length-set}
@@ -13,12 +13,12 @@ use lib.Dec.{leb, ltb, eqb}
 use borrow.Author.Tests.{ltb-true, ltb-false, lt-leb, le-ltb, eq-eqb, ne-eqb, eqb-true, eqb-false}
 use Rattle.bits.specs.Bits.{bitOf, some}
 use Rattle.bits.proofs.Laws.{some-none}
-use Rattle.table.specs.Entry.{startPart, topPart, bottomPart, bothPart, entry, alone, bottomsOnly, withTops, cell, allowedAt, rangeAt, loadAt}
+use Rattle.table.specs.Entry.{topPart, bottomPart, bothPart, entry, alone, bottomsOnly, withTops, cell, allowedAt, rangeAt, loadAt}
 use Rattle.table.proofs.Parts.{pair-heavy}
 use Rattle.table.specs.LowerBound.{withTop, withBottom, withBoth, lowest, bottomsLowest, topsLowest, lowerBound}
 
-less : (n : ℕ) → suc n - 1 ≡ n
-less n = omega arith
+one-less : (n : ℕ) → suc n - 1 ≡ n
+one-less n = omega arith
 
 -- the lower bound from those before it; a pin that is not there leaves what stands in its place open
 module _ (loads : List ℕ) where
@@ -27,10 +27,10 @@ module _ (loads : List ℕ) where
       → (0 < i → 0 < j → diagonal ≡ lowerBound loads (i - 1) (j - 1)) → lowest loads i j above before diagonal ≡ lowerBound loads i j
   unfolding lowerBound bottomsLowest topsLowest lowest
   bound-step zero zero above before diagonal a b d = refl
-  bound-step zero (suc j) above before diagonal a b d = rw (b (omega arith), less j) refl
-  bound-step (suc i) zero above before diagonal a b d = rw (a (omega arith), less i) refl
+  bound-step zero (suc j) above before diagonal a b d = rw (b (omega arith), one-less j) refl
+  bound-step (suc i) zero above before diagonal a b d = rw (a (omega arith), one-less i) refl
   bound-step (suc i) (suc j) above before diagonal a b d =
-      rw (a (omega arith), b (omega arith), d (omega arith) (omega arith), less i, less j) refl
+      rw (a (omega arith), b (omega arith), d (omega arith) (omega arith), one-less i, one-less j) refl
 
 -- which pins there are
 module _ (loads : List ℕ) (i j a b d : ℕ) where
@@ -139,9 +139,8 @@ module _ (rules loads : List ℕ) (bound : ℕ) where
       )
       (and-false (ltb 0 (suc i)))
   entry-none (suc i) (suc j) a b d above before diagonal ha hb hd h x y =
-      let (t, rest) =
-      over-smaller bound (withTop loads (suc i) (suc j) a) _
-      (rw (← lowest-both loads (suc i) (suc j) a b d (omega arith) (omega arith)) at h) in
+      let all = rw (← lowest-both loads (suc i) (suc j) a b d (omega arith) (omega arith)) at h in
+      let (t, rest) = over-smaller bound (withTop loads (suc i) (suc j) a) _ all in
       let (l, r) = over-smaller bound (withBottom loads (suc i) (suc j) b) (withBoth loads (suc i) (suc j) d) rest in
       rw (
         ne-eqb (suc i) 0 (omega arith),

@@ -1,7 +1,7 @@
 -- `search::least` meets its contract. The loop's invariant: all pins can be placed under the upper bound, and under nothing below the
 -- lower. The measure is what lies between.
 -- Assumes nothing.
-use Prim.Native.Nat.{_-_, _+_}
+use Prim.Native.Nat.{_-_}
 use mathlib.Core.Path.{_≡_, refl, _∙_}
 use native.Mathlib.Omega.{arith}
 use lib.ListN.{length, drop}

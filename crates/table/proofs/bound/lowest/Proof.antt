@@ -1,7 +1,7 @@
 -- `table::lowest` meets its contract: at each return the tests that led there say which pins there are.
 -- Assumes nothing.
-use mathlib.Core.Path.{_∙_, sym, ap, ap₂}
-use Prim.Native.Nat.{ℕ, min, max}
+use mathlib.Core.Path.{_∙_, ap, ap₂}
+use Prim.Native.Nat.{min, max}
 use borrow.Author.Needs.{needs}
 use Rattle.table.proofs.LowerBound.{lowest-none, lowest-bottoms, lowest-tops, lowest-both}
 use Rattle.table.proofs.bound.lowest.Statement.{statement}

@@ -1,10 +1,9 @@
 -- `table::next_row` meets its contract. The loop's invariant: the row is of i up to j and as it was from j on, and `before` and
 -- `diagonal` hold what stands left of j. The measure is how many are left.
 -- Assumes nothing.
-use Prim.Native.Nat.{ℕ, _+_, _-_, _≤_, _<_}
-use mathlib.Core.Path.{_≡_, refl, sym, _∙_, ap}
+use Prim.Native.Nat.{_+_, _-_, _≤_}
+use mathlib.Core.Path.{_∙_}
 use native.Mathlib.Omega.{arith}
-use lib.ListN.{length, getD, set, length-set}
 use Rattle.table.proofs.LowerBound.{Row, row-none, row-more}
 use Rattle.table.proofs.bound.next_row.Statement.{statement}
 use Rattle.table.proofs.bound.next_row.Tie as tie
