@@ -2,7 +2,7 @@
 -- Assumes nothing.
 use Prim.Native.Nat.{ℕ, zero, suc, _+_, _-_, _*_, _/_, _%_, _^_, _≤_, _<_}
 use mathlib.Core.Path.{_≡_, refl, sym, _∙_, ap, ap₂}
-use mathlib.Core.Bool.{Bool, true, false, _&&_, _||_, true≢false, and-false, or-true}
+use mathlib.Core.Bool.{Bool, true, false, _&&_, _||_, true≢false, or-true}
 use mathlib.Core.Logic.{_⊎_, inl, inr}
 use native.Mathlib.Omega.{arith}
 use native.Mathlib.Nat.{div-eq-of-lt, div-one, lt-of-lt-of-le, mul-assoc}
@@ -11,9 +11,9 @@ use lib.Dec.{leb, ltb, eqb}
 use lib.Bits.{bitAnd, bitOr, and-mod, or-mod, and-shr, or-shr}
 use lib.Count.{trailingZeros, under}
 use lib.Pow.{pow-pos, pow-mono, pow-add, shl-shr, shr-shr, field, mod-mod-pow, ones-split, ones-lt, high}
-use borrow.Author.Tests.{leb-true, leb-false, le-leb, lt-ltb, ltb-true, ltb-false, eq-eqb, ne-eqb, eqb-true, eqb-false}
+use borrow.Author.Tests.{leb-true, leb-false, ltb-true, ltb-false, eq-eqb, ne-eqb, eqb-true, eqb-false}
 use Rattle.channel.proofs.Sets.{bit-of}
-use Rattle.bits.specs.Bits.{bitOf, some, inWord, stepped, covered}
+use Rattle.bits.specs.Bits.{bitOf, some, inWord}
 
 -- the last bit
 odd : ℕ → Bool
@@ -161,7 +161,7 @@ some-from (suc n) f k h e = by-test (λ l. some-from n f k l e) (eqb k n) refl
     by-test rest true t = rw (ap f (sym (eqb-true k n t)) ∙ e)
     by-test rest false t = rw (rest (omega (arith, eqb-false k n t))) (or-true (f n))
 
-some-to : (n : ℕ) (f : ℕ → Bool) → some n f ≡ true → (k : ℕ) × (k < n) × (f k ≡ true)
+pub some-to : (n : ℕ) (f : ℕ → Bool) → some n f ≡ true → (k : ℕ) × (k < n) × (f k ≡ true)
 some-to zero f e = absurd (true≢false (sym e))
 some-to (suc n) f e = by-test (some-to n f) (f n) refl e
   where
@@ -194,41 +194,6 @@ module _ (n : ℕ) (a b : ℕ → Bool) where
 
   pub some-left : a n ≡ false → some (n + 1) (λ (m : ℕ). a m && b m) ≡ some n (λ (m : ℕ). a m && b m)
   some-left e = rw (add-one n, e)
-
--- a test moved up by one, which fails at 0
-some-moved : (n : ℕ) (f g : ℕ → Bool) → g 0 ≡ false → ((k : ℕ) → k < n → g (suc k) ≡ f k) → some (suc n) g ≡ some n f
-some-moved zero f g z h = rw z
-some-moved (suc n) f g z h = ap₂ (λ (a b : Bool). a || b) (h n (omega arith)) (some-moved n f g z (λ k l. h k (omega arith)))
-
--- the steps by the lowest bit, and those by the rest from the set moved up by one
-pub stepped-more :
-    (w by n : ℕ) → n < 64
-    → stepped w by n ≡ ((bitOf by 0 && bitOf w n) || stepped (w * 2 ^ 1 % 2 ^ 64) (by / 2 ^ 1) n)
-unfolding stepped
-stepped-more w by n h =
-    ap₂ (λ (a b : Bool). a || b) (ap (λ (k : ℕ). bitOf by k && bitOf w n) (omega arith)) (sym (some-moved n stay move none moved))
-  where
-    stay : ℕ → Bool
-    stay y = bitOf by (n - y) && bitOf w y
-
-    move : ℕ → Bool
-    move y = bitOf (by / 2 ^ 1) (n - y) && bitOf (w * 2 ^ 1 % 2 ^ 64) y
-
-    none : move 0 ≡ false
-    none = rw (bit-shl w 1 0 (omega arith)) (and-false (bitOf (by / 2 ^ 1) (n - 0)))
-
-    moved : (k : ℕ) → k < n → move (suc k) ≡ stay k
-    moved k l =
-        ap₂ (λ (a b : Bool). a && b) (bit-shr by 1 (n - suc k) ∙ ap (bitOf by) (omega arith))
-        (bit-shl w 1 (suc k) (omega arith) ∙ rw (le-leb 1 (suc k) (omega arith)) (ap (bitOf w) (omega arith)))
-
-pub stepped-none : (w n : ℕ) → stepped w 0 n ≡ false
-unfolding stepped
-stepped-none w n = none (suc n)
-  where
-    none : (m : ℕ) → some m (λ (y : ℕ). bitOf 0 (n - y) && bitOf w y) ≡ false
-    none zero = refl
-    none (suc m) = rw (bit-zero (n - m)) (none m)
 
 -- the numbers below k, as the high bits of a full word shifted down, and those from k on
 pub bit-full : (n : ℕ) → n < 64 → bitOf 18446744073709551615 n ≡ true
@@ -290,140 +255,8 @@ trailing-none (suc d) w k h = by-digit (w % 2) refl k h (trailing-none d (w / 2)
     by-digit zero e (suc m) l more = bit-half w m ∙ more m (omega arith)
     by-digit (suc r) e m l more = absurd (omega arith)
 
--- by a step of any number from a on, all numbers from the lowest plus a on are reached
-pub stepped-open :
-    (w by low a n : ℕ) → n < 64 → (low < 64 → bitOf w low ≡ true) → ((m : ℕ) → m < low → bitOf w m ≡ false)
-    → ((m : ℕ) → m < 64 → bitOf by m ≡ leb a m) → leb (low + a) n ≡ stepped w by n
-unfolding stepped
-stepped-open w by low a n h there none all = by-test (leb (low + a) n) refl
-  where
-    step : ℕ → Bool
-    step y = bitOf by (n - y) && bitOf w y
-
-    by-test : (b : Bool) → leb (low + a) n ≡ b → b ≡ some (suc n) step
-    by-test true e =
-        let le = leb-true (low + a) n e in
-        sym (some-from (suc n) step low (omega arith) (rw (all (n - low) (omega arith), le-leb a (n - low) (omega arith)) (there (omega arith))))
-    by-test false e = sym (some-none (suc n) step (λ y l. short y l (leb a (n - y)) refl))
-      where
-        short : (y : ℕ) → y < suc n → (b : Bool) → leb a (n - y) ≡ b → step y ≡ false
-        short y l true t =
-            let far = leb-false (low + a) n e in
-            let le = leb-true a (n - y) t in
-            rw (none y (omega arith)) (and-false (bitOf by (n - y)))
-        short y l false t = rw (all (n - y) (omega arith), t)
-
 -- tests that say the same
 pub same-test : (a b : Bool) → (a ≡ true → b ≡ true) → (b ≡ true → a ≡ true) → a ≡ b
 same-test true b f g = sym (f refl)
 same-test false true f g = g refl
 same-test false false f g = refl
-
-both-true : (a b : Bool) → (a && b) ≡ true → (a ≡ true) × (b ≡ true)
-both-true true b e = (refl, e)
-both-true false b e = absurd (true≢false (sym e))
-
-one-true : (a b : Bool) → (a || b) ≡ true → (a ≡ true) ⊎ (b ≡ true)
-one-true true b e = inl refl
-one-true false b e = inr e
-
--- what is less than a length above a number of w
-module _ (w : ℕ) where
-  abbrev near : ℕ → ℕ → ℕ → Bool
-  near length k y = ltb (k - y) length && bitOf w y
-
-  covered-from : (length k y : ℕ) → y ≤ k → k - y < length → bitOf w y ≡ true → covered w length k ≡ true
-  unfolding covered
-  covered-from length k y h l e = some-from (suc k) (near length k) y (omega arith) (rw (lt-ltb (k - y) length l) e)
-
-  covered-to : (length k : ℕ) → covered w length k ≡ true → (y : ℕ) × (y ≤ k) × (k - y < length) × (bitOf w y ≡ true)
-  unfolding covered
-  covered-to length k e =
-      let (y, h, t) = some-to (suc k) (near length k) e in
-      let (l, g) = both-true (ltb (k - y) length) (bitOf w y) t in
-      (y, omega arith, ltb-true (k - y) length l, g)
-
-  pub covered-one : (k : ℕ) → bitOf w k ≡ covered w 1 k
-  covered-one k =
-      same-test (bitOf w k) (covered w 1 k) (λ e. covered-from 1 k k (omega arith) (omega arith) e)
-      (λ e. let (y, h, l, g) = covered-to 1 k e in ap (bitOf w) (omega arith) ∙ g)
-
-  -- moved up by no more than the length, it makes one longer
-  pub covered-more : (a b k : ℕ) → b ≤ a → (covered w a k || (leb b k && covered w a (k - b))) ≡ covered w (a + b) k
-  covered-more a b k h = same-test _ _ there back
-    where
-      there : (covered w a k || (leb b k && covered w a (k - b))) ≡ true → covered w (a + b) k ≡ true
-      there e = by-part (one-true (covered w a k) (leb b k && covered w a (k - b)) e)
-        where
-          by-part : (covered w a k ≡ true) ⊎ ((leb b k && covered w a (k - b)) ≡ true) → covered w (a + b) k ≡ true
-          by-part (inl t) = let (y, l, m, g) = covered-to a k t in covered-from (a + b) k y l (omega arith) g
-          by-part (inr t) =
-              let (s, u) = both-true (leb b k) (covered w a (k - b)) t in
-              let le = leb-true b k s in
-              let (y, l, m, g) = covered-to a (k - b) u in
-              covered-from (a + b) k y (omega arith) (omega arith) g
-
-      back : covered w (a + b) k ≡ true → (covered w a k || (leb b k && covered w a (k - b))) ≡ true
-      back e =
-          let (y, l, m, g) = covered-to (a + b) k e in
-          by-test y l m g (ltb (k - y) a) refl
-        where
-          by-test :
-              (y : ℕ) → y ≤ k → k - y < a + b → bitOf w y ≡ true → (t : Bool) → ltb (k - y) a ≡ t
-              → (covered w a k || (leb b k && covered w a (k - b))) ≡ true
-          by-test y l m g true t = rw (covered-from a k y l (ltb-true (k - y) a t) g)
-          by-test y l m g false t =
-              let far = ltb-false (k - y) a t in
-              rw (le-leb b k (omega arith), covered-from a (k - b) y (omega arith) (omega arith) g) (or-true (covered w a k))
-
-  pub spread-more :
-      (found a b k : ℕ) → k < 64 → b ≤ a → ((m : ℕ) → m < 64 → bitOf found m ≡ covered w a m)
-      → bitOf (bitOr found (found * 2 ^ b % 2 ^ 64)) k ≡ covered w (a + b) k
-  spread-more found a b k l h so-far =
-      bit-or found (found * 2 ^ b % 2 ^ 64) k
-      ∙ ap₂ (λ (x y : Bool). x || y) (so-far k l) (bit-shl found b k l ∙ ap (λ (x : Bool). leb b k && x) (so-far (k - b) (omega arith)))
-      ∙ covered-more a b k h
-
--- a step by a run is a move up by its start and then what is less than its length above
-pub stepped-run :
-    (w by a end n : ℕ) → n < 64 → ((m : ℕ) → m < 64 → bitOf by m ≡ (leb a m && ltb m end))
-    → (leb a n && covered w (end - a) (n - a)) ≡ stepped w by n
-unfolding stepped
-stepped-run w by a end n h run = same-test _ _ there back
-  where
-    step : ℕ → Bool
-    step y = bitOf by (n - y) && bitOf w y
-
-    there : (leb a n && covered w (end - a) (n - a)) ≡ true → some (suc n) step ≡ true
-    there e =
-        let (s, t) = both-true (leb a n) (covered w (end - a) (n - a)) e in
-        let le = leb-true a n s in
-        let (y, l, m, g) = covered-to w (end - a) (n - a) t in
-        some-from (suc n) step y (omega arith)
-        (rw (run (n - y) (omega arith), le-leb a (n - y) (omega arith), lt-ltb (n - y) end (omega arith)) g)
-
-    back : some (suc n) step ≡ true → (leb a n && covered w (end - a) (n - a)) ≡ true
-    back e =
-        let (y, l, t) = some-to (suc n) step e in
-        let (s, g) = both-true (bitOf by (n - y)) (bitOf w y) t in
-        let (p, q) = both-true (leb a (n - y)) (ltb (n - y) end) (sym (run (n - y) (omega arith)) ∙ s) in
-        let le = leb-true a (n - y) p in
-        let lt = ltb-true (n - y) end q in
-        rw (le-leb a n (omega arith)) (covered-from w (end - a) (n - a) y (omega arith) (omega arith) g)
-
--- one turn of the steps: what is found so far, and what is still to be found by the bits that are left
-module _ (moved left found n : ℕ) (h : n < 64) where
-  or-turn : (a b c : Bool) → (a || (b || c)) ≡ ((a || b) || c)
-  or-turn true b c = refl
-  or-turn false b c = refl
-
-  abbrev rest : Bool
-  rest = stepped (moved * 2 ^ 1 % 2 ^ 64) (left / 2 ^ 1) n
-
-  pub odd-turn : left % 2 ≡ 1 → (bitOf found n || stepped moved left n) ≡ (bitOf (bitOr found moved) n || rest)
-  odd-turn e =
-      rw (stepped-more moved left n h, bit-first left, eq-eqb (left % 2) 1 e, bit-or found moved n)
-      (or-turn (bitOf found n) (bitOf moved n) rest)
-
-  pub even-turn : (left % 2 ≡ 1 → ⊥) → (bitOf found n || stepped moved left n) ≡ (bitOf found n || rest)
-  even-turn e = rw (stepped-more moved left n h, bit-first left, ne-eqb (left % 2) 1 e)

@@ -10,7 +10,7 @@ use lib.Dec.{ltb, eqb}
 use borrow.Author.Tests.{ltb-true, lt-ltb, eqb-true, eqb-false}
 use Rattle.channel.specs.Sheet.{Sheet}
 use Rattle.bits.specs.Bits.{some, inWord}
-use Rattle.bits.proofs.Laws.{some-from}
+use Rattle.bits.proofs.Laws.{some-from, same-test}
 use Rattle.table.specs.Entry.{cell}
 use Rattle.reach.specs.Reach.{anyBelow, reach, feasible}
 use Rattle.reach.proofs.Reaches.{anyBelow-from, anyBelow-some}
@@ -20,12 +20,6 @@ use Rattle.search.specs.Pass.{placeable, Rising}
 use Rattle.search.specs.Ready.{Ready}
 use Rattle.search.proofs.Below.{any-some}
 use Rattle.search.proofs.Reached.{cell-reach}
-
--- two tests that follow from each other
-pub same-test : (a b : Bool) → (a ≡ true → b ≡ true) → (b ≡ true → a ≡ true) → a ≡ b
-same-test true b f g = sym (f refl)
-same-test false true f g = g refl
-same-test false false f g = refl
 
 -- A test f of the numbers below n and a test g of the columns up to c, where the number x is the column x + k: some number meets f
 -- exactly when some column meets g, if f and g agree, f holds of no column past c, and g only of columns that have a number

@@ -13,7 +13,7 @@ use Rattle.channel.specs.Sheet.{Terminal, Sheet}
 use Rattle.channel.specs.Word.{Letter, rank, hasTop, hasBottom}
 use Rattle.channel.specs.Word.Letter.{empty, top, bottom}
 use Rattle.bits.specs.Bits.{bitOf, inWord}
-use Rattle.bits.proofs.Laws.{bit-full, word-from}
+use Rattle.bits.proofs.Laws.{bit-full, word-from, same-test}
 use Rattle.table.specs.Entry.{held}
 use Rattle.table.specs.Room.{baseOf}
 use Rattle.reach.specs.Reach.{anyBelow, near, reach}
@@ -26,7 +26,7 @@ use Rattle.search.specs.Rules.{SideRules}
 use Rattle.search.specs.Walk.{stepsTo, standsAt, numberFits, lefts, rowFits, rowMeets, someLeft, someHere, emptyFits, topFits, bottomFits, chosen}
 use Rattle.search.specs.Ready.{Ready}
 use Rattle.search.proofs.Below.{any-some, some-and, some-turn}
-use Rattle.search.proofs.Feasible.{same-test, same-columns, row-there, some-row, number-there}
+use Rattle.search.proofs.Feasible.{same-columns, row-there, some-row, number-there}
 
 -- One side of a walk that has c columns left: of n pins i are still to be placed, the others have columns behind c, up to l, and
 -- the one placed last stands in x

@@ -1,4 +1,4 @@
--- `bits::closed` meets its contract.
+-- `bits::closed` meets its contract: where the steps are a run, it is taken as one.
 -- Assumes nothing.
 use Prim.Native.Nat.{ℕ, _-_}
 use mathlib.Core.Path.{_∙_, ap, ap₂}
@@ -7,7 +7,8 @@ use native.Mathlib.Omega.{arith}
 use lib.Count.{leadingZeros, leading-le}
 use lib.Dec.{leb}
 use Rattle.bits.specs.Bits.{bitOf}
-use Rattle.bits.proofs.Laws.{bit-shl, stepped-run}
+use Rattle.bits.proofs.Laws.{bit-shl}
+use Rattle.bits.proofs.Stepped.{stepped-run}
 use borrow.Author.Needs.{needs}
 use Rattle.bits.proofs.closed.Statement.{statement}
 use Rattle.bits.proofs.closed.Tie as tie

@@ -8,7 +8,8 @@ use mathlib.Core.Bool.{_||_, or-false}
 use mathlib.Core.Logic.{⊎-elim}
 use native.Mathlib.Omega.{arith}
 use Rattle.bits.specs.Bits.{bitOf, stepped}
-use Rattle.bits.proofs.Laws.{bit-zero, stepped-none, odd-turn, even-turn}
+use Rattle.bits.proofs.Laws.{bit-zero}
+use Rattle.bits.proofs.Stepped.{stepped-none, odd-turn, even-turn}
 use Rattle.bits.proofs.one_by_one.Statement.{statement}
 use Rattle.bits.proofs.one_by_one.Tie as tie
 

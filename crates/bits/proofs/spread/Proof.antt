@@ -4,7 +4,7 @@ use Prim.Native.Nat.{ℕ, _-_, _≤_, _<_}
 use mathlib.Core.Path.{_≡_, _∙_, ap}
 use native.Mathlib.Omega.{arith}
 use Rattle.bits.specs.Bits.{bitOf, covered}
-use Rattle.bits.proofs.Laws.{covered-one, spread-more}
+use Rattle.bits.proofs.Stepped.{covered-one, spread-more}
 use Rattle.bits.proofs.spread.Statement.{statement}
 use Rattle.bits.proofs.spread.Tie as tie
 

@@ -1,9 +1,9 @@
--- `bits::steps` meets its contract.
+-- `bits::steps` meets its contract: where the steps have no end, everything behind the first is reached.
 -- Assumes nothing.
 use Prim.Native.Nat.{ℕ}
 use mathlib.Core.Path.{_∙_, ap}
 use Rattle.bits.specs.Bits.{bitOf}
-use Rattle.bits.proofs.Laws.{stepped-open}
+use Rattle.bits.proofs.Stepped.{stepped-open}
 use borrow.Author.Needs.{needs}
 use Rattle.bits.proofs.steps.Statement.{statement}
 use Rattle.bits.proofs.steps.Tie as tie
