@@ -13,7 +13,7 @@ use Rattle.cazdrob.specs.Host.{HostSearches}
 use Rattle.cazdrob.specs.Pair.{HostGave, HostKept}
 
 -- what a search gave: the number, and the density that it left
-module _ (bytes buffer work buffer' work' : List ℕ) (d number : ℕ) (h : HostSearches bytes buffer work buffer' work' d number) where
+module _ {bytes buffer work buffer' work' : List ℕ} {d number : ℕ} (h : HostSearches bytes buffer work buffer' work' d number) where
   left : (s : Sheet) (e : ℕ) → Gave s (searchedOf bytes (length buffer) (length work)) buffer' e → d ≡ e
   left s e g = h .density ∙ ap densityOf (g .answer)
 
@@ -23,13 +23,13 @@ module _ (bytes buffer work buffer' work' : List ℕ) (d number : ℕ) (h : Host
 pub two-host-searches :
     (a c u c' u' : List ℕ) (d n : ℕ) (b e v e' v' : List ℕ) (d' n' : ℕ) → HostSearches a c u c' u' d n → HostSearches b e v e' v' d' n'
     → (s t : Sheet) → LongEnough a s (length c) (length u) → LongEnough b t (length e) (length v) → HostKept s t n d n' d' c' e'
-two-host-searches a c u c' u' d n b e v e' v' d' n' h k s t room room' =
-    let kept = two-searches _ _ _ _ _ _ _ _ _ _ _ _ (h .buffers) (k .buffers) s t room room' in
+two-host-searches a c u c' u' d n b e v e' v' d' n' one two s t long long' =
+    let kept = two-searches _ _ _ _ _ _ _ _ _ _ _ _ (one .buffers) (two .buffers) s t long long' in
     record {
       loosened = λ l es q.
           let (x, y, g, f, less) = kept .loosened l es q in
-          (gave a c u c' u' d n h s x g, gave b e v e' v' d' n' k t y f, omega (arith, less, left a c u c' u' d n h s x g, left b e v e' v' d' n' k t y f));
+          (gave one s x g, gave two t y f, omega (arith, less, left one s x g, left two t y f));
       lengthened = λ l.
           let (x, g, f) = kept .lengthened l in
-          (gave a c u c' u' d n h s x g, gave b e v e' v' d' n' k t x f, left b e v e' v' d' n' k t x f ∙ sym (left a c u c' u' d n h s x g));
+          (gave one s x g, gave two t x f, left two t x f ∙ sym (left one s x g));
     }

@@ -97,7 +97,7 @@ fn count_net(net: u16, nets: &[u16], columns: &[u8], counts: &mut [u16])
     }
 }
 
-// How far a net reaches.
+// How far a net reaches. The loop has no branch, so that the compiler can take many pins at a time.
 fn span_of(net: u16, nets: &[u16], columns: &[u8]) -> Span
     requires { ⌜ length (now nets) ≡ length (now columns) ⌝ }
     ensures { λ r. ⌜ r ≡ spanOf net (pinsOf (now (nets .entry)) (now (columns .entry))) ⌝ }

@@ -7,7 +7,9 @@ use native.Mathlib.Omega.{arith}
 use lib.ListN.{length, drop, replicate, length-append, length-replicate, length-drop}
 use Rattle.table.specs.declared.Grid.{Grid}
 use Rattle.table.specs.Room.{Filled}
+use Rattle.search.specs.declared.pass.Plan.{Plan}
 use Rattle.search.specs.Walking.{Lies}
+use Rattle.search.specs.Pass.{Given}
 
 pub cleared-length : (n : ℕ) (old new : List ℕ) → n ≤ length old → new ≡ replicate n 0 ++ drop n old → length new ≡ length old
 cleared-length n old new h e = ap length e ∙ simp (length-append, length-replicate, length-drop) (omega arith)
@@ -16,6 +18,11 @@ pub lies-kept :
     (old new rules : List ℕ) (g : Grid) (p q : ℕ) → length new ≡ length old → Lies old rules g p q → Lies new rules g p q
 lies-kept old new rules g p q e l =
     record { rules = l .rules; sizes = l .sizes; rows = l .rows; tops = l .tops; bottoms = l .bottoms; room = rw e (l .room) }
+
+pub given-kept :
+    (old new rules loads : List ℕ) (n : Plan) → length new ≡ length old → Given old rules loads n → Given new rules loads n
+given-kept old new rules loads n e g =
+    record { sides = g .sides; lies = lies-kept old new rules _ _ _ e (g .lies); bottoms = g .bottoms; columns = g .columns }
 
 -- a filled table, said of itself
 pub filled-here :

@@ -20,7 +20,7 @@ use Rattle.sheet.specs.Parts.{terminalsIn}
 use Rattle.sheet.proofs.Sections.{length-terminals}
 use Rattle.load.specs.Cuts.{AllLoads, netsIn}
 use Rattle.load.proofs.LoadOf.{load-of}
-use Rattle.table.specs.Room.{Sides, Measures}
+use Rattle.table.specs.Room.{Measures}
 use Rattle.reach.specs.Reach.{feasible}
 use Rattle.reach.specs.Greedy.{trace}
 use Rattle.reach.proofs.Bounds.{feasible-some, reach-held}
@@ -30,7 +30,7 @@ use Rattle.search.specs.declared.pass.Plan.{Plan}
 use Rattle.search.specs.declared.pass.Outcome.{Outcome}
 use Rattle.search.specs.declared.pass.Outcome.the-variants as outcome
 use Rattle.search.specs.Rules.{SideRules, SheetLoads}
-use Rattle.search.specs.Pass.{placeable, Rising, Least, Came, Placed, tableEnd}
+use Rattle.search.specs.Pass.{Given, placeable, Rising, Least, Came, Placed, tableEnd}
 use Rattle.search.specs.Ready.{Ready}
 use Rattle.search.specs.Answer.{withColumns}
 use Rattle.search.specs.Solved.{sheetIn, planOf, Asked, outcomeOf, Solved}
@@ -185,19 +185,17 @@ module _ (tops bottoms : List ℕ) (n : Shape) (columns work : List ℕ)
     -- what the passes ask
     pub place-asked :
         length rules ≡ 256 → length loads ≡ 12675
-        → Sides rules loads
-        × Lies work rules (plan .grid) (plan .p) (plan .q)
-        × (plan .q ≤ plan .l)
-        × (plan .l ≤ 64)
-        × (plan .p + plan .q ≤ length columns)
-        × Rising (placeable rules loads plan)
+        → Given work rules loads plan × (plan .p + plan .q ≤ length columns) × Rising (placeable rules loads plan)
     place-asked er el = (
-      record { rules = er; loads = el },
-      rw planned
-          (plan-lies work rules (n .columns) (n .top) (n .bottom) (asked .sound .columns .0) (asked .sound .columns .1) hp hq er
-          (rw (← cell-count tops bottoms n (length columns) (length work) asked) (asked .cells))),
-      rw planned hq,
-      rw planned (asked .sound .columns .1),
+      record {
+        sides = record { rules = er; loads = el };
+        lies =
+            rw planned
+            (plan-lies work rules (n .columns) (n .top) (n .bottom) (asked .sound .columns .0) (asked .sound .columns .1) hp hq er
+            (rw (← cell-count tops bottoms n (length columns) (length work) asked) (asked .cells)));
+        bottoms = rw planned hq;
+        columns = rw planned (asked .sound .columns .1);
+      },
       rw planned (omega (arith, asked .pins, pin-count tops bottoms n (length columns) (length work) asked)),
       placeable-rising _ rules loads plan plan-ready,
     )

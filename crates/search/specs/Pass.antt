@@ -8,11 +8,19 @@ use lib.ListN.{length, drop}
 use lib.Dec.{ltb}
 use Rattle.bits.specs.Bits.{some, inWord}
 use Rattle.table.specs.Entry.{cell}
-use Rattle.table.specs.Room.{Filled}
+use Rattle.table.specs.Room.{Sides, Filled}
 use Rattle.search.specs.declared.pass.Plan.{Plan}
 use Rattle.search.specs.declared.pass.Outcome.{Outcome}
 use Rattle.search.specs.declared.pass.Outcome.the-variants as outcome
 use Rattle.search.specs.Walk.{walked}
+use Rattle.search.specs.Walking.{Lies}
+
+-- what a pass is given: the rules and the loads in their arrays, the table in the work cells, and columns enough for the bottom pins
+pub record Given (work rules loads : List ℕ) (n : Plan) : Type 0 where
+  pub sides : Sides rules loads
+  pub lies : Lies work rules (n .grid) (n .p) (n .q)
+  pub bottoms : n .q ≤ n .l
+  pub columns : n .l ≤ 64
 
 -- some place of all pins, the last bottom pin in one of the columns 1 to L
 unfoldable pub placeable : List ℕ → List ℕ → Plan → ℕ → Bool

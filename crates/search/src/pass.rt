@@ -10,9 +10,7 @@ ghost use mathlib.Core.Path.{_≡_};
 ghost use mathlib.Core.Bool.{true, false, cond};
 ghost use mathlib.Core.List.{_++_};
 ghost use lib.ListN.{length, drop, replicate};
-ghost use Rattle.table.specs.Room.{Sides};
-ghost use Rattle.search.specs.Walking.{Lies};
-ghost use Rattle.search.specs.Pass.{placeable, Rising, Least, Tried, Bounded, Placed};
+ghost use Rattle.search.specs.Pass.{Given, placeable, Rising, Tried, Bounded, Placed};
 
 // What all passes go by: the table's measures, the numbers of pins and the length of the channel.
 pub struct Plan {
@@ -30,7 +28,7 @@ pub enum Outcome {
 
 // Fills the table under a bound, and says whether all pins can be placed.
 fn try_bound(work: &mut [u16], rules: &[u64], loads: &[u8], plan: Plan, bound: u8) -> bool
-    requires { ⌜ Sides (now rules) (now loads) × Lies (now work) (now rules) (plan .grid) (plan .p) (plan .q) × (plan .q ≤ plan .l) × (plan .l ≤ 64) ⌝ }
+    requires { ⌜ Given (now work) (now rules) (now loads) plan ⌝ }
     ensures { λ r. ⌜ Tried (now (rules .entry)) (now (loads .entry)) plan bound (now (work .entry)) (now (work .exit)) r ⌝ }
 {
     let grid = plan.grid;
@@ -78,7 +76,7 @@ fn farther(ahead: u8) -> u8
 // The least bound under which all pins can be placed, where 128 is such a bound and `failed` is none. It is most often close above
 // `failed`, so the passes look there first.
 fn least(work: &mut [u16], rules: &[u64], loads: &[u8], plan: Plan, failed: u8) -> u8
-    requires { ⌜ Sides (now rules) (now loads) × Lies (now work) (now rules) (plan .grid) (plan .p) (plan .q) × (plan .q ≤ plan .l) × (plan .l ≤ 64) × (placeable (now rules) (now loads) plan failed ≡ false) × (placeable (now rules) (now loads) plan 128 ≡ true) × Rising (placeable (now rules) (now loads) plan) ⌝ }
+    requires { ⌜ Given (now work) (now rules) (now loads) plan × (placeable (now rules) (now loads) plan failed ≡ false) × (placeable (now rules) (now loads) plan 128 ≡ true) × Rising (placeable (now rules) (now loads) plan) ⌝ }
     ensures { λ r. ⌜ Bounded (now (rules .entry)) (now (loads .entry)) plan (now (work .entry)) (now (work .exit)) r ⌝ }
 {
     let mut low = failed + 1;
@@ -103,7 +101,7 @@ fn place_above(
     failed: u8,
     columns: &mut [u8],
 ) -> Outcome
-    requires { ⌜ Sides (now rules) (now loads) × Lies (now work) (now rules) (plan .grid) (plan .p) (plan .q) × (plan .q ≤ plan .l) × (plan .l ≤ 64) × (plan .p + plan .q ≤ length (now columns)) × (placeable (now rules) (now loads) plan failed ≡ false) × Rising (placeable (now rules) (now loads) plan) ⌝ }
+    requires { ⌜ Given (now work) (now rules) (now loads) plan × (plan .p + plan .q ≤ length (now columns)) × (placeable (now rules) (now loads) plan failed ≡ false) × Rising (placeable (now rules) (now loads) plan) ⌝ }
     ensures { λ r. ⌜ Placed (now (rules .entry)) (now (loads .entry)) plan (now (work .entry)) (now (work .exit)) (now (columns .entry)) (now (columns .exit)) r ⌝ }
 {
     if try_bound(work, rules, loads, plan, 128) {
@@ -124,7 +122,7 @@ pub fn place(
     plan: Plan,
     columns: &mut [u8],
 ) -> Outcome
-    requires { ⌜ Sides (now rules) (now loads) × Lies (now work) (now rules) (plan .grid) (plan .p) (plan .q) × (plan .q ≤ plan .l) × (plan .l ≤ 64) × (plan .p + plan .q ≤ length (now columns)) × Rising (placeable (now rules) (now loads) plan) ⌝ }
+    requires { ⌜ Given (now work) (now rules) (now loads) plan × (plan .p + plan .q ≤ length (now columns)) × Rising (placeable (now rules) (now loads) plan) ⌝ }
     ensures { λ r. ⌜ Placed (now (rules .entry)) (now (loads .entry)) plan (now (work .entry)) (now (work .exit)) (now (columns .entry)) (now (columns .exit)) r ⌝ }
 {
     let bound = lower_bound(loads, plan.p, plan.q);

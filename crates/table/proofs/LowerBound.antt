@@ -15,7 +15,7 @@ use Rattle.bits.specs.Bits.{bitOf, some}
 use Rattle.bits.proofs.Laws.{some-none}
 use Rattle.table.specs.Entry.{topPart, bottomPart, bothPart, entry, alone, bottomsOnly, withTops, cell, allowedAt, rangeAt, loadAt}
 use Rattle.table.proofs.Parts.{pair-heavy}
-use Rattle.table.specs.LowerBound.{withTop, withBottom, withBoth, lowest, bottomsLowest, topsLowest, lowerBound}
+use Rattle.table.specs.LowerBound.{topLast, bottomLast, bothLast, lowest, bottomsLowest, topsLowest, lowerBound}
 
 one-less : (n : ℕ) → suc n - 1 ≡ n
 one-less n = omega arith
@@ -38,17 +38,17 @@ module _ (loads : List ℕ) (i j a b d : ℕ) where
   unfolding lowest
   lowest-none e f = rw (eq-eqb i 0 e, eq-eqb j 0 f)
 
-  pub lowest-bottoms : i ≡ 0 → (j ≡ 0 → ⊥) → withBottom loads i j b ≡ lowest loads i j a b d
+  pub lowest-bottoms : i ≡ 0 → (j ≡ 0 → ⊥) → bottomLast loads i j b ≡ lowest loads i j a b d
   unfolding lowest
   lowest-bottoms e f = rw (eq-eqb i 0 e, ne-eqb j 0 f)
 
-  pub lowest-tops : (i ≡ 0 → ⊥) → j ≡ 0 → withTop loads i j a ≡ lowest loads i j a b d
+  pub lowest-tops : (i ≡ 0 → ⊥) → j ≡ 0 → topLast loads i j a ≡ lowest loads i j a b d
   unfolding lowest
   lowest-tops e f = rw (ne-eqb i 0 e, eq-eqb j 0 f)
 
   pub lowest-both :
       (i ≡ 0 → ⊥) → (j ≡ 0 → ⊥)
-      → min (withTop loads i j a) (min (withBottom loads i j b) (withBoth loads i j d)) ≡ lowest loads i j a b d
+      → min (topLast loads i j a) (min (bottomLast loads i j b) (bothLast loads i j d)) ≡ lowest loads i j a b d
   unfolding lowest
   lowest-both e f = rw (ne-eqb i 0 e, ne-eqb j 0 f)
 
@@ -140,8 +140,8 @@ module _ (rules loads : List ℕ) (bound : ℕ) where
       (and-false (ltb 0 (suc i)))
   entry-none (suc i) (suc j) a b d above before diagonal ha hb hd h x y =
       let all = rw (← lowest-both loads (suc i) (suc j) a b d (omega arith) (omega arith)) at h in
-      let (t, rest) = over-smaller bound (withTop loads (suc i) (suc j) a) _ all in
-      let (l, r) = over-smaller bound (withBottom loads (suc i) (suc j) b) (withBoth loads (suc i) (suc j) d) rest in
+      let (t, rest) = over-smaller bound (topLast loads (suc i) (suc j) a) _ all in
+      let (l, r) = over-smaller bound (bottomLast loads (suc i) (suc j) b) (bothLast loads (suc i) (suc j) d) rest in
       rw (
         ne-eqb (suc i) 0 (omega arith),
         top-none (suc i) (suc j) x y above (lacking a ha (over-larger bound a (loadAt loads (suc i) (suc j) 0) t)),

@@ -10,20 +10,20 @@ use Rattle.table.specs.Entry.{loadAt}
 module _ (loads : List ℕ) (i j : ℕ) where
   -- of i top and j bottom pins, from one top pin less, one bottom pin less, and one of each less: the last column holds a top pin,
   -- a bottom pin, or both
-  abbrev pub withTop : ℕ → ℕ
-  withTop above = max above (loadAt loads i j 0)
+  abbrev pub topLast : ℕ → ℕ
+  topLast above = max above (loadAt loads i j 0)
 
-  abbrev pub withBottom : ℕ → ℕ
-  withBottom before = max before (loadAt loads i j 1)
+  abbrev pub bottomLast : ℕ → ℕ
+  bottomLast before = max before (loadAt loads i j 1)
 
-  abbrev pub withBoth : ℕ → ℕ
-  withBoth diagonal = max diagonal (loadAt loads i j 2)
+  abbrev pub bothLast : ℕ → ℕ
+  bothLast diagonal = max diagonal (loadAt loads i j 2)
 
   -- a pin that is not there is not taken
   unfoldable pub lowest : ℕ → ℕ → ℕ → ℕ
   lowest above before diagonal =
-      cond (eqb i 0) (cond (eqb j 0) 0 (withBottom before))
-      (cond (eqb j 0) (withTop above) (min (withTop above) (min (withBottom before) (withBoth diagonal))))
+      cond (eqb i 0) (cond (eqb j 0) 0 (bottomLast before))
+      (cond (eqb j 0) (topLast above) (min (topLast above) (min (bottomLast before) (bothLast diagonal))))
 
 -- by recursion on the number of top pins, and within that on the number of bottom pins
 module _ (loads : List ℕ) where

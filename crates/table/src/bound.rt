@@ -1,9 +1,9 @@
 // A bound that no placing of all pins gets below, from the loads alone.
+use crate::entry::load;
 ghost use Prim.Native.Nat.{ℕ, _+_, _-_, _≤_, _<_, min, max};
 ghost use mathlib.Core.Path.{_≡_};
 ghost use lib.ListN.{length, getD};
 ghost use Rattle.table.specs.LowerBound.{lowest as lowestOf, lowerBound};
-ghost use Rattle.table.specs.Entry.{loadAt};
 
 fn smaller(a: u8, b: u8) -> u8
     ensures { λ r. ⌜ r ≡ min a b ⌝ }
@@ -15,14 +15,6 @@ fn larger(a: u8, b: u8) -> u8
     ensures { λ r. ⌜ r ≡ max a b ⌝ }
 {
     if a < b { b } else { a }
-}
-
-// The load of a column.
-fn load(loads: &[u8], i: usize, j: usize, letter: usize) -> u8
-    requires { ⌜ (length (now loads) ≡ 12675) × (i ≤ 64) × (j ≤ 64) × (letter ≤ 2) ⌝ }
-    ensures { λ r. ⌜ r ≡ loadAt (now (loads .entry)) i j letter ⌝ }
-{
-    loads[3 * (65 * i + j) + letter]
 }
 
 // The lower bound of i top and j bottom pins, from those of one top pin less, one bottom pin less, and one of each less.

@@ -50,12 +50,20 @@ fn allowed(rules: &[u64], side: usize, i: usize) -> u64
     rules[128 * side + 64 + (i - 1)]
 }
 
-// Whether the load of a column is within the bound.
+// The load of a column.
+pub fn load(loads: &[u8], i: usize, j: usize, letter: usize) -> u8
+    requires { ⌜ (length (now loads) ≡ 12675) × (i ≤ 64) × (j ≤ 64) × (letter ≤ 2) ⌝ }
+    ensures { λ r. ⌜ r ≡ loadAt (now (loads .entry)) i j letter ⌝ }
+{
+    loads[3 * (65 * i + j) + letter]
+}
+
+// Whether it is within the bound.
 fn within(loads: &[u8], bound: u8, i: usize, j: usize, letter: usize) -> bool
     requires { ⌜ (length (now loads) ≡ 12675) × (i ≤ 64) × (j ≤ 64) × (letter ≤ 2) ⌝ }
     ensures { λ r. ⌜ r ≡ leb (loadAt (now (loads .entry)) i j letter) bound ⌝ }
 {
-    loads[3 * (65 * i + j) + letter] <= bound
+    load(loads, i, j, letter) <= bound
 }
 
 // No pin is placed.

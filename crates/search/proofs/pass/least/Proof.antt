@@ -8,7 +8,7 @@ use lib.ListN.{length, drop}
 use borrow.Author.Needs.{needs}
 use Rattle.search.specs.Pass.{placeable, tableEnd}
 use Rattle.search.proofs.Passes.{Between, between-start, between-more, between-end, between-falls}
-use Rattle.search.proofs.Cleared.{lies-kept}
+use Rattle.search.proofs.Cleared.{given-kept}
 use Rattle.search.proofs.pass.least.Statement.{statement}
 use Rattle.search.proofs.pass.least.Tie as tie
 
@@ -22,12 +22,12 @@ abbrev μ-loop : tie.MeasureT-loop
 add-low : tie.Need-add-low Inv-loop μ-loop
 add-low c =
     let start = c .before .before .before in
-    omega (arith, between-start _ (start .pre .6) _ (start .pre .4) (start .pre .5) .order)
+    omega (arith, between-start _ (start .pre .3) _ (start .pre .1) (start .pre .2) .order)
 
 loop-holds : tie.Need-loop-holds Inv-loop μ-loop
 loop-holds c =
     let start = c .before .before .before in
-    (between-start _ (start .pre .6) _ (start .pre .4) (start .pre .5), refl, refl)
+    (between-start _ (start .pre .3) _ (start .pre .1) (start .pre .2), refl, refl)
 
 next-bound-requires : tie.Need-next-bound-requires Inv-loop μ-loop
 next-bound-requires c κs = c .loop-test .taken
@@ -35,7 +35,7 @@ next-bound-requires c κs = c .loop-test .taken
 try-bound-requires : tie.Need-try-bound-requires Inv-loop μ-loop
 try-bound-requires c κs =
     let start = c .before .before .before .before .before .before .before in
-    (start .pre .0, lies-kept _ _ _ _ _ _ (c .before .before .before .loop .inv .1) (start .pre .1), start .pre .2, start .pre .3)
+    given-kept _ _ _ _ _ (c .before .before .before .loop .inv .1) (start .pre .0)
 
 pick-requires : tie.Need-pick-requires Inv-loop μ-loop
 pick-requires c κs = search needs
@@ -69,7 +69,7 @@ loop-again c =
     let a = start .args in
     let o = at-loop .loop in (
       rw (c .before .pick2 .ensures, c .before .before .pick .ensures)
-          (between-more (placeable (a .rules .now) (a .loads .now) (a .plan)) (start .pre .6) (o .low) (o .high) _ _
+          (between-more (placeable (a .rules .now) (a .loads .now) (a .plan)) (start .pre .3) (o .low) (o .high) _ _
           (at-next .next-bound .ensures .0) (at-next .next-bound .ensures .1) (at-try-bound .try-bound .ensures .answer) (o .inv .0)),
       at-try-bound .try-bound .ensures .table .kept ∙ o .inv .1,
       at-try-bound .try-bound .ensures .table .behind ∙ o .inv .2,

@@ -4,7 +4,7 @@ use mathlib.Core.Path.{_∙_, sym}
 use native.Mathlib.Omega.{arith}
 use borrow.Author.Needs.{needs}
 use Rattle.search.proofs.Passes.{below-lower}
-use Rattle.search.proofs.Cleared.{lies-kept, filled-here}
+use Rattle.search.proofs.Cleared.{given-kept, filled-here}
 use Rattle.search.proofs.pass.place.Statement.{statement}
 use Rattle.search.proofs.pass.place.Tie as tie
 
@@ -48,15 +48,8 @@ place-above-requires c κs =
     let at-if = c .before .before in
     let at-try-bound = at-if .before .before .before in
     let start = at-try-bound .before .before .before .before .before .before .before in
-    let tried = at-try-bound .try-bound .ensures in (
-      start .pre .0,
-      lies-kept _ _ _ _ _ _ (tried .table .kept) (start .pre .1),
-      start .pre .2,
-      start .pre .3,
-      start .pre .4,
-      sym (tried .answer) ∙ at-if .if1 .left,
-      start .pre .5,
-    )
+    let tried = at-try-bound .try-bound .ensures in
+    (given-kept _ _ _ _ _ (tried .table .kept) (start .pre .0), start .pre .1, sym (tried .answer) ∙ at-if .if1 .left, start .pre .2)
 
 same-length-3 : tie.Need-same-length-3
 same-length-3 c = search needs

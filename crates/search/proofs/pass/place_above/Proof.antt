@@ -1,7 +1,7 @@
 -- `search::place_above` meets its contract: the passes find the least bound, and the walk over its table gives the columns.
 -- Assumes nothing.
 use mathlib.Core.Path.{refl, _∙_, sym}
-use Rattle.search.proofs.Cleared.{lies-kept, filled-here}
+use Rattle.search.proofs.Cleared.{given-kept, filled-here}
 use borrow.Author.Needs.{needs}
 use Rattle.search.proofs.pass.place_above.Statement.{statement}
 use Rattle.search.proofs.pass.place_above.Tie as tie
@@ -12,16 +12,9 @@ try-bound-requires c κs = search needs
 least-requires : tie.Need-least-requires
 least-requires c κs =
     let at-try-bound = c .before .before .before .before in
-    let start = at-try-bound .before .before .before .before .before .before in (
-      start .pre .0,
-      lies-kept _ _ _ _ _ _ (at-try-bound .try-bound .ensures .table .kept) (start .pre .1),
-      start .pre .2,
-      start .pre .3,
-      start .pre .5,
-      sym
-          (at-try-bound .try-bound .ensures .answer) ∙ c .before .if1 .taken,
-      start .pre .6,
-    )
+    let start = at-try-bound .before .before .before .before .before .before in
+    let tried = at-try-bound .try-bound .ensures in
+    (given-kept _ _ _ _ _ (tried .table .kept) (start .pre .0), start .pre .2, sym (tried .answer) ∙ c .before .if1 .taken, start .pre .3)
 
 fill-requires : tie.Need-fill-requires
 fill-requires c κs = search needs

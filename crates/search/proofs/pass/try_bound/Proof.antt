@@ -21,7 +21,7 @@ mul-base-2 c =
     let a = start .args in
     omega (
       arith,
-      base-room (a .work .now) (a .rules .now) (a .plan .grid) (a .plan .p) (a .plan .q) (start .pre .1) (a .plan .p)
+      base-room (a .work .now) (a .rules .now) (a .plan .grid) (a .plan .p) (a .plan .q) (start .pre .lies) (a .plan .p)
           (a .plan .q) (le-refl (a .plan .p)) (le-refl (a .plan .q)),
     )
 
@@ -31,7 +31,7 @@ add-base c =
     let a = start .args in
     omega (
       arith,
-      base-room (a .work .now) (a .rules .now) (a .plan .grid) (a .plan .p) (a .plan .q) (start .pre .1) (a .plan .p)
+      base-room (a .work .now) (a .rules .now) (a .plan .grid) (a .plan .p) (a .plan .q) (start .pre .lies) (a .plan .p)
           (a .plan .q) (le-refl (a .plan .p)) (le-refl (a .plan .q)),
     )
 
@@ -54,16 +54,16 @@ meets-requires c κs =
     let a = start .args in (
       omega (
         arith,
-        base-room (a .work .now) (a .rules .now) (a .plan .grid) (a .plan .p) (a .plan .q) (start .pre .1) (a .plan .p)
+        base-room (a .work .now) (a .rules .now) (a .plan .grid) (a .plan .p) (a .plan .q) (start .pre .lies) (a .plan .p)
             (a .plan .q) (le-refl (a .plan .p)) (le-refl
             (a .plan .q)),
         at-fill .fill .ensures .kept,
-        start .pre .1 .sizes .rows .0,
-        start .pre .1 .rows,
+        start .pre .lies .sizes .rows .0,
+        start .pre .lies .rows,
       ),
       omega arith,
       omega
-          (arith, start .pre .1 .sizes .rows .1),
+          (arith, start .pre .lies .sizes .rows .1),
     )
 
 same-length : tie.Need-same-length
@@ -78,8 +78,8 @@ returns c =
       answer =
           c .meets .ensures
           ∙ last-plane (a .rules .now) (a .loads .now) (a .plan) (a .bound) _ _ _ _ _ (at-fill .fill .ensures)
-          (omega (arith, start .pre .1 .bottoms)) (start .pre .1 .sizes .rows .1)
-          (c .before .below .ensures) refl (omega (arith, start .pre .1 .rows));
+          (omega (arith, start .pre .lies .bottoms)) (start .pre .lies .sizes .rows .1)
+          (c .before .below .ensures) refl (omega (arith, start .pre .lies .rows));
       table = at-fill .fill .ensures;
     }
 

@@ -1,0 +1,17 @@
+-- `table::within` meets its contract: the load against the bound.
+-- Assumes nothing.
+use Prim.Native.Nat.{ℕ}
+use mathlib.Core.Path.{ap}
+use lib.Dec.{leb}
+use borrow.Author.Needs.{needs}
+use Rattle.table.proofs.entry.within.Statement.{statement}
+use Rattle.table.proofs.entry.within.Tie as tie
+
+load-requires : tie.Need-load-requires
+load-requires c κs = search needs
+
+returns : tie.Need-returns
+returns c = ap (λ (n : ℕ). leb n (c .before .before .args .bound)) (c .load .ensures)
+
+pub within-spec : {M : Type 1} → statement M
+within-spec = tie.close (tie.spec load-requires returns)
