@@ -33,20 +33,14 @@ impl Trial {
         let sheet = sheet(plan);
         let work = vec![0; cazdrob::cells(&sheet)];
         let columns = vec![0; plan.top + plan.bottom];
-        Trial {
-            sheet,
-            list: columns.clone(),
-            columns,
-            work,
-        }
+        Trial { sheet, list: columns.clone(), columns, work }
     }
 
     fn job(&mut self, job: Job) -> Result<u32, u32> {
         let sheet = black_box(&self.sheet[..]);
         let list = black_box(&self.list[..]);
         match job {
-            Job::Search => cazdrob::search(sheet, &mut self.columns, &mut self.work)
-                .map_err(|why| why.number()),
+            Job::Search => cazdrob::search(sheet, &mut self.columns, &mut self.work).map_err(|why| why.number()),
             Job::PlainSearch => plain::search(sheet, &mut self.columns, &mut self.work),
             Job::Measure => cazdrob::measure(sheet, list).map_err(|why| why.number()),
             Job::PlainMeasure => plain::measure(sheet, list),
@@ -70,10 +64,7 @@ impl Trial {
             found.push((answer, self.columns.clone()));
         }
         if found[0] != found[1] {
-            return Err(format!(
-                "searching: the library gives {:?}, the plain program {:?}",
-                found[0], found[1]
-            ));
+            return Err(format!("searching: the library gives {:?}, the plain program {:?}", found[0], found[1]));
         }
         self.list = if found[0].0.is_ok() {
             self.columns.clone()
@@ -84,15 +75,10 @@ impl Trial {
         };
         let (ours, plain) = (self.job(Job::Measure), self.job(Job::PlainMeasure));
         if ours != plain {
-            return Err(format!(
-                "measuring: the library gives {ours:?}, the plain program {plain:?}"
-            ));
+            return Err(format!("measuring: the library gives {ours:?}, the plain program {plain:?}"));
         }
         if found[0].0.is_ok() && ours != found[0].0 {
-            return Err(format!(
-                "searching gives {:?} and measuring what it found {ours:?}",
-                found[0].0
-            ));
+            return Err(format!("searching gives {:?} and measuring what it found {ours:?}", found[0].0));
         }
         Ok(found[0].0)
     }
@@ -139,28 +125,13 @@ fn rows() -> Vec<(&'static str, Plan)> {
         ("5 a side on 12", open(5, 12)),
         ("16 a side on 40", open(16, 40)),
         ("32 a side on 64", open(32, 64)),
-        (
-            "32 a side on 64, ranges 1 to 4",
-            Plan {
-                range: (1, 4),
-                ..open(32, 64)
-            },
-        ),
-        (
-            "16 a side on 40, no assignment",
-            Plan {
-                last_top: 15,
-                ..open(16, 40)
-            },
-        ),
+        ("32 a side on 64, ranges 1 to 4", Plan { range: (1, 4), ..open(32, 64) }),
+        ("16 a side on 40, no assignment", Plan { last_top: 15, ..open(16, 40) }),
     ]
 }
 
 fn shown(answer: Result<u32, u32>) -> String {
-    answer.map_or_else(
-        |number| format!("refused {number}"),
-        |density| density.to_string(),
-    )
+    answer.map_or_else(|number| format!("refused {number}"), |density| density.to_string())
 }
 
 fn span(seconds: f64) -> String {
@@ -177,22 +148,11 @@ fn main_table() -> Result<(), String> {
     println!("{:>39}search{:>30}measuring", "", "");
     println!(
         "{:<3}  {:<30}  {:>11}{:>11}{:>8}  {:>13}{:>11}{:>8}  {:>8}  {:>10}",
-        "row",
-        "sheet",
-        "Cazdrob",
-        "plain",
-        "ratio",
-        "Cazdrob",
-        "plain",
-        "ratio",
-        "clearing",
-        "density"
+        "row", "sheet", "Cazdrob", "plain", "ratio", "Cazdrob", "plain", "ratio", "clearing", "density"
     );
     for (k, (name, plan)) in rows().iter().enumerate() {
         let mut trial = Trial::new(plan);
-        let answer = trial
-            .agree()
-            .map_err(|why| format!("row {}: {why}", k + 1))?;
+        let answer = trial.agree().map_err(|why| format!("row {}: {why}", k + 1))?;
         let [search, plain, clear] = trial.time([Job::Search, Job::PlainSearch, Job::Clear]);
         let [measure, plain_measure] = trial.time([Job::Measure, Job::PlainMeasure]);
         println!(
@@ -223,60 +183,31 @@ has the columns 1 to 16 on each side and both refuse it with 13.",
 
 fn growth(title: &str, plans: &[Plan]) -> Result<(), String> {
     println!("\n{title}\n");
-    println!(
-        "{:>6}  {:>3}  {:>11}{:>8}  {:>11}{:>8}",
-        "a side", "L", "Cazdrob", "growth", "plain", "growth"
-    );
+    println!("{:>6}  {:>3}  {:>11}{:>8}  {:>11}{:>8}", "a side", "L", "Cazdrob", "growth", "plain", "growth");
     let mut before: Option<[f64; 2]> = None;
     for plan in plans {
         let mut trial = Trial::new(plan);
-        trial
-            .agree()
-            .map_err(|why| format!("{} a side on {}: {why}", plan.top, plan.length))?
-            .ok();
+        trial.agree().map_err(|why| format!("{} a side on {}: {why}", plan.top, plan.length))?.ok();
         let times = trial.time([Job::Search, Job::PlainSearch]);
-        let grown = |k: usize| {
-            before.map_or_else(String::new, |before| format!("{:.2}", times[k] / before[k]))
-        };
-        println!(
-            "{:>6}  {:>3}  {:>11}{:>8}  {:>11}{:>8}",
-            plan.top,
-            plan.length,
-            span(times[0]),
-            grown(0),
-            span(times[1]),
-            grown(1)
-        );
+        let grown = |k: usize| before.map_or_else(String::new, |before| format!("{:.2}", times[k] / before[k]));
+        println!("{:>6}  {:>3}  {:>11}{:>8}  {:>11}{:>8}", plan.top, plan.length, span(times[0]), grown(0), span(times[1]), grown(1));
         before = Some(times);
     }
     Ok(())
 }
 
 /// Name, nets, length and seconds of the paper's table 1, as far as its channels have at most 64 columns.
-const PAPER: [(&str, usize, usize, f64); 4] = [
-    ("Ex1", 15, 20, 1.05),
-    ("Ex2", 21, 35, 7.72),
-    ("Ex3", 30, 62, 26.92),
-    ("Ex4", 47, 61, 40.97),
-];
+const PAPER: [(&str, usize, usize, f64); 4] =
+    [("Ex1", 15, 20, 1.05), ("Ex2", 21, 35, 7.72), ("Ex3", 30, 62, 26.92), ("Ex4", 47, 61, 40.97)];
 
 fn paper_table() -> Result<(), String> {
     println!("\nBeside table 1 of Cai and Wong (1990): Pascal on a Sun 3/50\n");
-    println!(
-        "{:<3}  {:>5}  {:>4}  {:>8}  {:>6}  {:>11}",
-        "Ex.", "#Nets", "Len.", "CPU(s)", "a side", "Cazdrob"
-    );
+    println!("{:<3}  {:>5}  {:>4}  {:>8}  {:>6}  {:>11}", "Ex.", "#Nets", "Len.", "CPU(s)", "a side", "Cazdrob");
     for (name, nets, length, seconds) in PAPER {
-        let mut trial = Trial::new(&Plan {
-            nets,
-            ..open(nets, length)
-        });
+        let mut trial = Trial::new(&Plan { nets, ..open(nets, length) });
         trial.agree().map_err(|why| format!("{name}: {why}"))?.ok();
         let [search] = trial.time([Job::Search]);
-        println!(
-            "{name:<3}  {nets:>5}  {length:>4}  {seconds:>8.2}  {nets:>6}  {:>11}",
-            span(search)
-        );
+        println!("{name:<3}  {nets:>5}  {length:>4}  {seconds:>8.2}  {nets:>6}  {:>11}", span(search));
     }
     println!(
         "
@@ -304,10 +235,7 @@ fn only(words: &[String]) -> Result<(), String> {
         _ => return Err(usage.into()),
     };
     let rows = rows();
-    let (_, plan) = row
-        .checked_sub(1)
-        .and_then(|k| rows.get(k))
-        .ok_or("no such row")?;
+    let (_, plan) = row.checked_sub(1).and_then(|k| rows.get(k)).ok_or("no such row")?;
     let mut trial = Trial::new(plan);
     if matches!(job, Job::Measure | Job::PlainMeasure) {
         trial.agree()?.ok();
@@ -319,14 +247,8 @@ fn only(words: &[String]) -> Result<(), String> {
 
 fn tables() -> Result<(), String> {
     main_table()?;
-    growth(
-        "Search as L doubles",
-        &[16, 32, 64].map(|length| open(8, length)),
-    )?;
-    growth(
-        "Search as p and q double",
-        &[4, 8, 16, 32].map(|pins| open(pins, 64)),
-    )?;
+    growth("Search as L doubles", &[16, 32, 64].map(|length| open(8, length)))?;
+    growth("Search as p and q double", &[4, 8, 16, 32].map(|pins| open(pins, 64)))?;
     paper_table()
 }
 

@@ -37,23 +37,14 @@ fn read_side(section: &[u8], length: usize) -> Result<Vec<Terminal>, u32> {
         if net == 0 {
             return Err(6);
         }
-        let sound = if place == 0 {
-            least == 0 && greatest == 0
-        } else {
-            1 <= least && least <= greatest
-        };
+        let sound = if place == 0 { least == 0 && greatest == 0 } else { 1 <= least && least <= greatest };
         if !sound {
             return Err(7);
         }
         if length < 64 && allowed >> length != 0 {
             return Err(8);
         }
-        side.push(Terminal {
-            net,
-            least,
-            greatest,
-            allowed,
-        });
+        side.push(Terminal { net, least, greatest, allowed });
     }
     Ok(side)
 }
@@ -67,12 +58,7 @@ fn read(sheet: &[u8]) -> Result<Channel, u32> {
     if trailer[10..] != *b"CP" {
         return Err(2);
     }
-    let (top, p, bottom, q) = (
-        half(trailer, 0),
-        half(trailer, 2),
-        half(trailer, 4),
-        half(trailer, 6),
-    );
+    let (top, p, bottom, q) = (half(trailer, 0), half(trailer, 2), half(trailer, 4), half(trailer, 6));
     let length = half(trailer, 8);
     if length == 0 || length > 64 {
         return Err(3);
@@ -86,11 +72,7 @@ fn read(sheet: &[u8]) -> Result<Channel, u32> {
     }
     let top = read_side(&sheet[top..top + 12 * p], length)?;
     let bottom = read_side(&sheet[bottom..bottom + 12 * q], length)?;
-    Ok(Channel {
-        length,
-        top,
-        bottom,
-    })
+    Ok(Channel { length, top, bottom })
 }
 
 /// The first and last place of a net on one side, from 1. With no pin there, first is beyond every place and last is 0.
@@ -109,30 +91,15 @@ struct Net {
 }
 
 fn collect_nets(channel: &Channel) -> Vec<Net> {
-    let none = Places {
-        first: usize::MAX,
-        last: 0,
-        count: 0,
-    };
+    let none = Places { first: usize::MAX, last: 0, count: 0 };
     let mut nets: Vec<Net> = Vec::new();
     for (on_top, side) in [(true, &channel.top), (false, &channel.bottom)] {
         for (place, terminal) in side.iter().enumerate() {
-            let at = nets
-                .iter()
-                .position(|net| net.number == terminal.net)
-                .unwrap_or_else(|| {
-                    nets.push(Net {
-                        number: terminal.net,
-                        top: none,
-                        bottom: none,
-                    });
-                    nets.len() - 1
-                });
-            let places = if on_top {
-                &mut nets[at].top
-            } else {
-                &mut nets[at].bottom
-            };
+            let at = nets.iter().position(|net| net.number == terminal.net).unwrap_or_else(|| {
+                nets.push(Net { number: terminal.net, top: none, bottom: none });
+                nets.len() - 1
+            });
+            let places = if on_top { &mut nets[at].top } else { &mut nets[at].bottom };
             places.first = places.first.min(place + 1);
             places.last = place + 1;
             places.count += 1;
@@ -143,22 +110,13 @@ fn collect_nets(channel: &Channel) -> Vec<Net> {
 
 /// The nets that cross a column. `before` are the top and bottom pins left of it, `up_to` those with the column's own, and
 /// `in_column` says how many of these a net has.
-fn crossing(
-    nets: &[Net],
-    before: (usize, usize),
-    up_to: (usize, usize),
-    in_column: impl Fn(&Net) -> usize,
-) -> u16 {
+fn crossing(nets: &[Net], before: (usize, usize), up_to: (usize, usize), in_column: impl Fn(&Net) -> usize) -> u16 {
     let mut count = 0;
     for net in nets {
         let here = in_column(net);
         let left = net.top.first <= before.0 || net.bottom.first <= before.1;
         let right = net.top.last > up_to.0 || net.bottom.last > up_to.1;
-        let crosses = if here > 0 {
-            net.top.count + net.bottom.count > here
-        } else {
-            left && right
-        };
+        let crosses = if here > 0 { net.top.count + net.bottom.count > here } else { left && right };
         count += u16::from(crosses);
     }
     count
@@ -168,22 +126,10 @@ fn crossing(
 fn loads(channel: &Channel, nets: &[Net], i: usize, j: usize) -> (u16, u16, u16) {
     let top = |net: &Net| usize::from(channel.top[i - 1].net == net.number);
     let bottom = |net: &Net| usize::from(channel.bottom[j - 1].net == net.number);
-    let x = if i > 0 {
-        crossing(nets, (i - 1, j), (i, j), top)
-    } else {
-        INFINITY
-    };
-    let y = if j > 0 {
-        crossing(nets, (i, j - 1), (i, j), bottom)
-    } else {
-        INFINITY
-    };
+    let x = if i > 0 { crossing(nets, (i - 1, j), (i, j), top) } else { INFINITY };
+    let y = if j > 0 { crossing(nets, (i, j - 1), (i, j), bottom) } else { INFINITY };
     let both = |net: &Net| top(net) + bottom(net);
-    let z = if i > 0 && j > 0 {
-        crossing(nets, (i - 1, j - 1), (i, j), both)
-    } else {
-        INFINITY
-    };
+    let z = if i > 0 && j > 0 { crossing(nets, (i - 1, j - 1), (i, j), both) } else { INFINITY };
     (x, y, z)
 }
 
@@ -213,21 +159,9 @@ fn fill(channel: &Channel, work: &mut [u16]) {
             let (x, y, z) = loads(channel, &nets, i, j);
             let at = i * stride + j * plane;
             let (earlier, rest) = work.split_at_mut(at);
-            let without_top = if i > 0 {
-                &earlier[at - stride..][..plane]
-            } else {
-                &[]
-            };
-            let without_bottom = if j > 0 {
-                &earlier[at - plane..][..plane]
-            } else {
-                &[]
-            };
-            let without_both = if i > 0 && j > 0 {
-                &earlier[at - stride - plane..][..plane]
-            } else {
-                &[]
-            };
+            let without_top = if i > 0 { &earlier[at - stride..][..plane] } else { &[] };
+            let without_bottom = if j > 0 { &earlier[at - plane..][..plane] } else { &[] };
+            let without_both = if i > 0 && j > 0 { &earlier[at - stride - plane..][..plane] } else { &[] };
             for u in 0..width {
                 let row = &mut rest[u * width..][..width];
                 let top_may = i > 0 && top[i - 1].allows(u);
@@ -244,8 +178,7 @@ fn fill(channel: &Channel, work: &mut [u16]) {
                     0
                 } else if top_may && j > 0 && bottom[j - 1].allows(u) {
                     let across = window(bottom, j, u);
-                    let rows = window(top, i, u)
-                        .map(|u| least_of(&without_both[u * width..][across.clone()]));
+                    let rows = window(top, i, u).map(|u| least_of(&without_both[u * width..][across.clone()]));
                     rows.min().unwrap_or(INFINITY).max(z)
                 } else {
                     INFINITY
@@ -277,8 +210,7 @@ fn left_of(side: &[Terminal], i: usize, next: usize, end: usize) -> Range<usize>
 
 /// Whether the i-th pin of a side may be in `column` when the one after it is in `next`.
 fn may_stand(side: &[Terminal], i: usize, next: usize, column: usize) -> bool {
-    i > 0
-        && (i == side.len() || (column + side[i].least..=column + side[i].greatest).contains(&next))
+    i > 0 && (i == side.len() || (column + side[i].least..=column + side[i].greatest).contains(&next))
 }
 
 /// From the last column down, the smallest letter after which the rest can still be placed within the least density.
@@ -353,10 +285,7 @@ pub fn measure(sheet: &[u8], columns: &[u8]) -> Result<u32, u32> {
     if columns.len() != p + channel.bottom.len() {
         return Err(12);
     }
-    let sides = [
-        (&channel.top, &columns[..p]),
-        (&channel.bottom, &columns[p..]),
-    ];
+    let sides = [(&channel.top, &columns[..p]), (&channel.bottom, &columns[p..])];
     for (side, columns) in sides {
         for (terminal, &column) in side.iter().zip(columns) {
             if !terminal.allows(usize::from(column)) {
@@ -384,10 +313,6 @@ pub fn measure(sheet: &[u8], columns: &[u8]) -> Result<u32, u32> {
         }
     }
     // a net whose pins share one column crosses nothing
-    let crossings = (1..=channel.length as u8).map(|c| {
-        nets.iter()
-            .filter(|net| net.1 < net.2 && net.1 <= c && c <= net.2)
-            .count()
-    });
+    let crossings = (1..=channel.length as u8).map(|c| nets.iter().filter(|net| net.1 < net.2 && net.1 <= c && c <= net.2).count());
     Ok(crossings.max().unwrap_or(0) as u32)
 }

@@ -26,14 +26,7 @@ pub struct Plan {
 
 /// Full sets, no distance that binds, and nets of two to four pins that have a pin on each side.
 pub fn open(pins: usize, length: usize) -> Plan {
-    Plan {
-        length,
-        top: pins,
-        bottom: pins,
-        nets: (2 * pins * 2).div_ceil(5),
-        range: (1, 255),
-        last_top: length,
-    }
+    Plan { length, top: pins, bottom: pins, nets: (2 * pins * 2).div_ceil(5), range: (1, 255), last_top: length }
 }
 
 /// The bytes of a sheet whose pins are dealt to the nets in turn and then shuffled, each side by itself.
@@ -51,11 +44,7 @@ pub fn sheet(plan: &Plan) -> Vec<u8> {
     for (k, net) in nets.into_iter().enumerate() {
         let first = k == 0 || k == plan.top;
         let (least, greatest) = if first { (0, 0) } else { plan.range };
-        let last = if k + 1 == plan.top {
-            plan.last_top
-        } else {
-            plan.length
-        };
+        let last = if k + 1 == plan.top { plan.last_top } else { plan.length };
         bytes.extend((net as u16).to_le_bytes());
         bytes.extend([least, greatest]);
         bytes.extend((u64::MAX >> (64 - last)).to_le_bytes());
