@@ -73,28 +73,28 @@ one-true : (a b : Bool) → (a || b) ≡ true → (a ≡ true) ⊎ (b ≡ true)
 one-true true b e = inl refl
 one-true false b e = inr e
 
--- what is less than a length above a number of w
+-- what is less than a width above a number of w
 module _ (w : ℕ) where
   abbrev near : ℕ → ℕ → ℕ → Bool
-  near length k y = ltb (k - y) length && bitOf w y
+  near width k y = ltb (k - y) width && bitOf w y
 
-  covered-from : (length k y : ℕ) → y ≤ k → k - y < length → bitOf w y ≡ true → covered w length k ≡ true
+  covered-from : (width k y : ℕ) → y ≤ k → k - y < width → bitOf w y ≡ true → covered w width k ≡ true
   unfolding covered
-  covered-from length k y h l e = some-from (suc k) (near length k) y (omega arith) (rw (lt-ltb (k - y) length l) e)
+  covered-from width k y h l e = some-from (suc k) (near width k) y (omega arith) (rw (lt-ltb (k - y) width l) e)
 
-  covered-to : (length k : ℕ) → covered w length k ≡ true → (y : ℕ) × (y ≤ k) × (k - y < length) × (bitOf w y ≡ true)
+  covered-to : (width k : ℕ) → covered w width k ≡ true → (y : ℕ) × (y ≤ k) × (k - y < width) × (bitOf w y ≡ true)
   unfolding covered
-  covered-to length k e =
-      let (y, h, t) = some-to (suc k) (near length k) e in
-      let (l, g) = and-eq-true-iff (ltb (k - y) length) (bitOf w y) .0 t in
-      (y, omega arith, ltb-true (k - y) length l, g)
+  covered-to width k e =
+      let (y, h, t) = some-to (suc k) (near width k) e in
+      let (l, g) = and-eq-true-iff (ltb (k - y) width) (bitOf w y) .0 t in
+      (y, omega arith, ltb-true (k - y) width l, g)
 
   pub covered-one : (k : ℕ) → bitOf w k ≡ covered w 1 k
   covered-one k =
       same-test (bitOf w k) (covered w 1 k) (λ e. covered-from 1 k k (omega arith) (omega arith) e)
       (λ e. let (y, h, l, g) = covered-to 1 k e in ap (bitOf w) (omega arith) ∙ g)
 
-  -- moved up by no more than the length, it makes one longer
+  -- moved up by no more than the width, it makes one longer
   pub covered-more : (a b k : ℕ) → b ≤ a → (covered w a k || (leb b k && covered w a (k - b))) ≡ covered w (a + b) k
   covered-more a b k h = same-test _ _ there back
     where
@@ -130,7 +130,7 @@ module _ (w : ℕ) where
       ∙ ap₂ (λ (x y : Bool). x || y) (so-far k l) (bit-shl found b k l ∙ ap (λ (x : Bool). leb b k && x) (so-far (k - b) (omega arith)))
       ∙ covered-more a b k h
 
--- a step by a run is a move up by its start and then what is less than its length above
+-- a step by a run is a move up by its start and then what is less than its width above
 pub stepped-run :
     (w by a end n : ℕ) → n < 64 → ((m : ℕ) → m < 64 → bitOf by m ≡ (leb a m && ltb m end))
     → (leb a n && covered w (end - a) (n - a)) ≡ stepped w by n

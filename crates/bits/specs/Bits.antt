@@ -21,6 +21,6 @@ inWord f = some 64 f
 unfoldable pub stepped : ℕ → ℕ → ℕ → Bool
 stepped w by k = some (suc k) (λ (y : ℕ). bitOf by (k - y) && bitOf w y)
 
--- k is a number of w or less than `length` above one
+-- k is a number of w or less than `width` above one
 unfoldable pub covered : ℕ → ℕ → ℕ → Bool
-covered w length k = some (suc k) (λ (y : ℕ). ltb (k - y) length && bitOf w y)
+covered w width k = some (suc k) (λ (y : ℕ). ltb (k - y) width && bitOf w y)

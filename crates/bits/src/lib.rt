@@ -93,18 +93,18 @@ fn closed(w: u64, by: u64, least: usize) -> u64
     one_by_one(w, by)
 }
 
-// The numbers of w and those less than `length` above one, twice as many with each turn.
-fn spread(w: u64, length: usize) -> u64
-    requires { ⌜ (0 < length) × (length ≤ 64) ⌝ }
-    ensures { λ r. ⌜ ((n : ℕ) → n < 64 → bitOf r n ≡ covered w length n) ⌝ }
+// The numbers of w and those less than `width` above one, twice as many with each turn.
+fn spread(w: u64, width: usize) -> u64
+    requires { ⌜ (0 < width) × (width ≤ 64) ⌝ }
+    ensures { λ r. ⌜ ((n : ℕ) → n < 64 → bitOf r n ≡ covered w width n) ⌝ }
 {
     let mut found = w;
     let mut done: usize = 1;
-    while done + done <= length {
+    while done + done <= width {
         found = found | (found << done);
         done = done + done;
     }
-    found | (found << (length - done))
+    found | (found << (width - done))
 }
 
 // The steps of any `by`.

@@ -9,10 +9,10 @@ use Rattle.bits.proofs.spread.Statement.{statement}
 use Rattle.bits.proofs.spread.Tie as tie
 
 abbrev Inv-loop : tie.InvT-loop
-Inv-loop w length found₀ done₀ found done = (1 ≤ done) × (done ≤ length) × ((n : ℕ) → n < 64 → bitOf found n ≡ covered w done n)
+Inv-loop w width found₀ done₀ found done = (1 ≤ done) × (done ≤ width) × ((n : ℕ) → n < 64 → bitOf found n ≡ covered w done n)
 
 abbrev μ-loop : tie.MeasureT-loop
-μ-loop w length found₀ done₀ found done = length - done
+μ-loop w width found₀ done₀ found done = width - done
 
 loop-holds : tie.Need-loop-holds Inv-loop μ-loop
 loop-holds c = (omega arith, omega arith, λ n h. covered-one (c .args .w) n)
@@ -44,7 +44,7 @@ returns : tie.Need-returns Inv-loop μ-loop
 returns c = λ n h.
     let l = c .before .loop in
     let args = c .before .before .args in
-    spread-more (args .w) (l .found) (l .done) (args .length - l .done) n h (omega arith) (l .inv .2) ∙ ap (λ (a : ℕ). covered (args .w) a n) (omega arith)
+    spread-more (args .w) (l .found) (l .done) (args .width - l .done) n h (omega arith) (l .inv .2) ∙ ap (λ (a : ℕ). covered (args .w) a n) (omega arith)
 
 pub spread-spec : {M : Type 1} → statement M
 spread-spec =
