@@ -20,8 +20,9 @@ pub record HostMeasures (bytes columns : List ℕ) (density' r : ℕ) : Type 0 w
   pub number : r ≡ measure.numberOf (measure.measuredOf bytes columns)
   pub density : density' ≡ measure.densityOf (measure.measuredOf bytes columns)
 
--- the promise of a search: its number, the density it leaves, and the library's own promise on both buffers
+-- the promise of a search: its number, the density it leaves, and both buffers at exit
 pub record HostSearches (bytes buffer work buffer' work' : List ℕ) (density' r : ℕ) : Type 0 where
   pub number : r ≡ search.numberOf (search.searchedOf bytes (length buffer) (length work))
   pub density : density' ≡ search.densityOf (search.searchedOf bytes (length buffer) (length work))
-  pub buffers : search.Searches bytes buffer work buffer' work' (search.searchedOf bytes (length buffer) (length work))
+  pub columns : buffer' ≡ search.columnsAfter bytes (length work) buffer
+  pub cells : work' ≡ search.workAfter bytes (length buffer) work

@@ -1,2 +1,1 @@
 pub mod Host
-pub mod Pair

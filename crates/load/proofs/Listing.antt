@@ -8,7 +8,7 @@ use native.Mathlib.Omega.{arith}
 use native.Mathlib.Nat.{le-refl}
 use native.Mathlib.Numerals.{add-one, towards-suc}
 use lib.ListN.{length, getD, take, drop, set, length-append, length-drop, take-append-drop, drop-of-length-le}
-use lib.Seq.{drop-cons, take-at, sets, sets-eq, length-take-le, take-all}
+use lib.Seq.{drop-cons, drop-drop, take-at, drop-at, sets, sets-eq, length-take-le, take-all}
 use lib.Dec.{eqb}
 use Rattle.channel.specs.Density.{any, distinct}
 use Rattle.load.specs.declared.spans.Span.{Span}
@@ -17,12 +17,11 @@ use Rattle.load.specs.Ends.{spanOf, numbersOf, spansOf, lastAt, Put, Two
 
 -- five stores from index i on
 pub five-stored : (xs : List ℕ) (i a b c d e : ℕ) → i + 5 ≤ length xs
-    → take (i + 5) (set (set (set (set (set xs i a) (i + 1) b) (i + 2) c) (i + 3) d) (i + 4) e) ≡ take i xs ++ (a ∷ b ∷ c ∷ d ∷ e ∷ [])
+    → set (set (set (set (set xs i a) (i + 1) b) (i + 2) c) (i + 3) d) (i + 4) e ≡ take i xs ++ ((a ∷ b ∷ c ∷ d ∷ e ∷ []) ++ drop (i + 5) xs)
 five-stored xs i a b c d e h =
     let vs : List ℕ = a ∷ b ∷ c ∷ d ∷ e ∷ [] in
     let stores : set (set (set (set (set xs i a) (i + 1) b) (i + 2) c) (i + 3) d) (i + 4) e ≡ sets xs i vs = simp towards-suc in
-    let len : length (take i xs ++ vs) ≡ i + 5 = rw (length-append, length-take-le i xs (omega arith)) in
-    ap (take (i + 5)) (stores ∙ sets-eq vs xs i h) ∙ take-at (take i xs ++ vs) (drop (i + 5) xs) (i + 5) len
+    stores ∙ sets-eq vs xs i h ∙ append-assoc (take i xs) vs (drop (i + 5) xs)
 
 -- the nets of a list from index m on, each once: the one at m if it does not stand again, and then the others
 distinct-at : (ns : List ℕ) (m : ℕ) → m < length ns → distinct (drop m ns) ≡ lastAt ns m ++ distinct (drop (m + 1) ns)
@@ -47,6 +46,15 @@ pub put-more : (tops bottoms ns : List ℕ) (m : ℕ) (old new : List ℕ) (k r 
 put-more tops bottoms ns m old new k r all h put e =
     rw (put .spans, append-assoc, ← spans-append, ← distinct-at ns m h) e
 
+-- and what is behind the new spans is as it was, if it was so behind the old ones
+pub put-rest : (tops bottoms ns : List ℕ) (m : ℕ) (all old new : List ℕ) (k r : ℕ)
+    → Put tops bottoms ns m old new k r
+    → drop (5 * k) old ≡ drop (5 * k) all
+    → drop (5 * r) new ≡ drop (5 * r) all
+put-rest tops bottoms ns m all old new k r put e =
+    let more : 5 * r ≡ 5 * k + 5 * (r - k) = omega (arith, put .count) in
+    put .rest ∙ rw (more, ← drop-drop (5 * (r - k)) (5 * k) old, ← drop-drop (5 * (r - k)) (5 * k) all, e)
+
 -- at most one span is put
 pub put-count : (ns : List ℕ) (m : ℕ) → length (lastAt ns m) ≤ 1
 put-count ns m = go (any (eqb (getD ns m 0)) (drop (m + 1) ns))
@@ -68,17 +76,29 @@ pub put-none : (tops bottoms ns : List ℕ) (m : ℕ) (old : List ℕ) (k : ℕ)
     → again ≡ true
     → Put tops bottoms ns m old old k k
 put-none tops bottoms ns m old k again e t =
-    record { count = rw (sym e ∙ t) (omega arith); spans = rw (sym e ∙ t, append-nil) }
+    record { count = rw (sym e ∙ t) (omega arith); spans = rw (sym e ∙ t, append-nil); rest = refl }
 
 pub put-one : (tops bottoms ns : List ℕ) (m : ℕ) (old new : List ℕ) (k : ℕ) (again : Bool) (s : Span)
     → again ≡ any (eqb (getD ns m 0)) (drop (m + 1) ns)
     → again ≡ false
     → s ≡ spanOf tops bottoms (getD ns m 0)
-    → take (5 * k + 5) new ≡ take (5 * k) old ++ numbersOf s
+    → 5 * k + 5 ≤ length old
+    → new ≡ take (5 * k) old ++ (numbersOf s ++ drop (5 * k + 5) old)
     → Put tops bottoms ns m old new k (k + 1)
-put-one tops bottoms ns m old new k again s e f d h =
+put-one tops bottoms ns m old new k again s e f d room h =
+    let front : List ℕ = take (5 * k) old ++ numbersOf s in
     let five : 5 * (k + 1) ≡ 5 * k + 5 = omega arith in
-    record { count = rw (sym e ∙ f); spans = rw (sym e ∙ f, five, append-nil) (h ∙ ap (λ (s : Span). take (5 * k) old ++ numbersOf s) d) }
+    let size : length front ≡ 5 * k + 5 = rw (length-append, length-take-le (5 * k) old (omega arith)) in
+    let split : new ≡ front ++ drop (5 * k + 5) old = h ∙ sym (append-assoc (take (5 * k) old) (numbersOf s) (drop (5 * k + 5) old)) in
+    record {
+      count = rw (sym e ∙ f);
+      spans =
+          rw (sym e ∙ f, five, append-nil)
+          (ap (take (5 * k + 5)) split
+          ∙ take-at front _ (5 * k + 5) size
+          ∙ ap (λ (s : Span). take (5 * k) old ++ numbersOf s) d);
+      rest = rw five (ap (drop (5 * k + 5)) split ∙ drop-at front _ (5 * k + 5) size);
+    }
 
 -- a part that goes to the end of a list
 pub part-rest : (ns : List ℕ) (a : ℕ) → take (length ns - a) (drop a ns) ≡ drop a ns

@@ -1,20 +1,19 @@
--- The nets of a section are those of its records, in their order; and a list filled from the front.
+-- The nets of a section are those of its records, in their order; and the nets of two sections read one behind the other.
 -- Assumes nothing.
-use Prim.Native.Nat.{ℕ, zero, suc, _+_, _/_, _≤_, _<_}
+use Prim.Native.Nat.{ℕ, zero, suc, _+_, _≤_}
 use mathlib.Core.Path.{_≡_, refl, sym, ap, _∙_}
 use mathlib.Core.List.{List, [], _∷_, _++_, append-assoc}
 use native.Mathlib.Omega.{arith}
-use native.Mathlib.Nat.{zero-add}
 use native.Mathlib.Numerals.{add-one}
-use lib.ListN.{length, getD, take, drop, set, length-map, length-append}
-use lib.Seq.{take-suc, take-suc-set, take-all, take-at, drop-at}
+use lib.ListN.{length, getD, take, drop, length-map, length-append}
+use lib.Seq.{take-all, take-at, drop-at, paste}
 use Rattle.channel.specs.Sheet.{Terminal}
 use Rattle.channel.specs.Cut.{nets}
 use Rattle.sheet.specs.declared.Entry.{Entry}
 use Rattle.sheet.specs.declared.Entry.the-variants.{Terminal as Found, Nothing}
 use Rattle.sheet.specs.declared.Record.{Record}
 use Rattle.sheet.specs.Parts.{nth, terminalsIn, entryIn}
-use Rattle.sheet.proofs.Sections.{length-terminals}
+use Rattle.sheet.proofs.Laws.{entry-in}
 use Rattle.load.specs.Cuts.{netsIn, AllLoads}
 use Rattle.load.specs.Ends.{TwoSides}
 
@@ -32,8 +31,7 @@ nth-none (t ∷ ts) (suc k) h = nth-none ts k h
 -- of the entry at index i of a section
 module _ (part : List ℕ) (i : ℕ) (e : Entry) (answer : e ≡ entryIn part (i + 1)) where
   entry-nth : nth (terminalsIn part) i ≡ e
-  unfolding entryIn
-  entry-nth = sym (rw add-one at answer)
+  entry-nth = sym (rw (entry-in, add-one) at answer)
 
   pub found-net : (r : Record) → e ≡ Found r → r .net ≡ getD (netsIn part) i 0
   found-net r h = nth-net (terminalsIn part) i r (entry-nth ∙ h)
@@ -41,44 +39,46 @@ module _ (part : List ℕ) (i : ℕ) (e : Entry) (answer : e ≡ entryIn part (i
   pub no-net : e ≡ Nothing → 0 ≡ getD (netsIn part) i 0
   no-net h = nth-none (terminalsIn part) i (entry-nth ∙ h)
 
--- a section has as many nets as records
-pub length-nets : (part : List ℕ) → length (netsIn part) ≡ length part / 12
-length-nets part = length-map (terminalsIn part) (λ (t : Terminal). t .net) ∙ length-terminals part 0 (length part / 12)
+-- a section has as many nets as terminals
+pub length-nets : (part : List ℕ) → length (netsIn part) ≡ length (terminalsIn part)
+length-nets part = length-map (terminalsIn part) (λ (t : Terminal). t .net)
 
--- a list that has the first i of ns behind its first `from` has one more once it is stored there
-pub fill-more : (xs old ns : List ℕ) (from i : ℕ) → from + i < length xs → i < length ns
-    → take (from + i) xs ≡ take from old ++ take i ns
-    → take (from + (i + 1)) (set xs (from + i) (getD ns i 0)) ≡ take from old ++ take (i + 1) ns
-fill-more xs old ns from i h k e =
-    let next : from + (i + 1) ≡ suc (from + i) = omega arith in
-    rw (next, add-one, take-suc-set xs (from + i) (getD ns i 0) h, take-suc ns i 0 k, e, append-assoc)
+-- a list into which all nets of a section are copied, from index `from` on
+pub nets-copied : (part old xs : List ℕ) (from i : ℕ) → i ≡ length (terminalsIn part)
+    → xs ≡ paste old from (netsIn part) i
+    → xs ≡ take from old ++ (netsIn part ++ drop (from + length (terminalsIn part)) old)
+nets-copied part old xs from i all e =
+    let whole : take (length (terminalsIn part)) (netsIn part) ≡ netsIn part
+    = take-all (length (terminalsIn part)) (netsIn part) (omega (arith, length-nets part)) in
+    (rw (all, whole, append-assoc) at e)
 
-pub fill-done : (xs old ns : List ℕ) (from i n : ℕ) → i ≡ n → length ns ≡ n
-    → take (from + i) xs ≡ take from old ++ take i ns
-    → take (from + n) xs ≡ take from old ++ ns
-fill-done xs old ns from i n all len e =
-    ap (λ (k : ℕ). take (from + k) xs) (sym all) ∙ e ∙ ap (λ (ms : List ℕ). take from old ++ ms) (take-all i ns (omega arith))
+-- two sections of p and q terminals, read one behind the other into a list
+module _ (top bottom : List ℕ) (p q : ℕ) (tops : p ≡ length (terminalsIn top)) (bottoms : q ≡ length (terminalsIn bottom)) where
+  top-nets : length (netsIn top) ≡ p
+  top-nets = length-nets top ∙ sym tops
 
--- how many terminals a section has
-abbrev pub count : List ℕ → ℕ
-count part = length part / 12
+  bottom-nets : length (netsIn bottom) ≡ q
+  bottom-nets = length-nets bottom ∙ sym bottoms
 
--- two sections read one behind the other
-pub both-nets : (top bottom a b : List ℕ)
-    → take (0 + count top) a ≡ netsIn top
-    → take (count top + count bottom) b ≡ take (count top) a ++ netsIn bottom
-    → take (count top + count bottom) b ≡ netsIn top ++ netsIn bottom
-both-nets top bottom a b first second =
-    second ∙ ap (λ (ns : List ℕ). ns ++ netsIn bottom) (ap (λ (k : ℕ). take k a) (sym (zero-add (count top))) ∙ first)
+  -- the first p + q of that list, whatever it held before
+  pub both-nets : (old a b : List ℕ)
+      → a ≡ netsIn top ++ drop (0 + length (terminalsIn top)) old
+      → b ≡ take p a ++ (netsIn bottom ++ drop (p + length (terminalsIn bottom)) a)
+      → take (p + q) b ≡ netsIn top ++ netsIn bottom
+  both-nets old a b first second =
+      let front : take p a ≡ netsIn top = ap (take p) first ∙ take-at (netsIn top) _ p top-nets in
+      let count : length (netsIn top ++ netsIn bottom) ≡ p + q = rw (length-append, top-nets, bottom-nets) in
+      ap (take (p + q)) (rw (front, ← append-assoc) at second) ∙ take-at (netsIn top ++ netsIn bottom) _ (p + q) count
 
--- what such a list says of the two sides
-module _ (top bottom : List ℕ) {ns : List ℕ} (both : ns ≡ netsIn top ++ netsIn bottom) where
-  pub both-length : count top + count bottom ≡ length ns
-  both-length = rw both (omega (arith, length-append (netsIn top) (netsIn bottom), length-nets top, length-nets bottom))
+  -- what such a list says of the two sides
+  module _ {ns : List ℕ} (both : ns ≡ netsIn top ++ netsIn bottom) where
+    pub both-length : p + q ≡ length ns
+    both-length = rw both (omega (arith, length-append (netsIn top) (netsIn bottom), top-nets, bottom-nets))
 
-  pub both-sides : count top ≤ 64 → count bottom ≤ 64 → TwoSides ns (count top)
-  both-sides h k = record { top = h; split = omega (arith, both-length); bottom = omega (arith, both-length) }
+    pub both-sides : length (terminalsIn top) ≤ 64 → length (terminalsIn bottom) ≤ 64 → TwoSides ns p
+    both-sides h k =
+        record { top = omega (arith, tops); split = omega (arith, both-length); bottom = omega (arith, both-length, bottoms) }
 
-  pub both-loads : (old new : List ℕ) → AllLoads (take (count top) ns) (drop (count top) ns) old new → AllLoads (netsIn top) (netsIn bottom) old new
-  both-loads old new all =
-      rw (both, take-at (netsIn top) (netsIn bottom) (count top) (length-nets top), drop-at (netsIn top) (netsIn bottom) (count top) (length-nets top)) at all
+    pub both-loads : (old new : List ℕ) → AllLoads (take p ns) (drop p ns) old new → AllLoads (netsIn top) (netsIn bottom) old new
+    both-loads old new all =
+        rw (both, take-at (netsIn top) (netsIn bottom) p top-nets, drop-at (netsIn top) (netsIn bottom) p top-nets) at all

@@ -59,3 +59,12 @@ loadsTo spans c (suc m) = withNet c (loadsTo spans c m) (spanAt spans m)
 
 unfoldable pub loadsAt : List ℕ → Cut → Loads
 loadsAt spans c = loadsTo spans c (length spans / 5)
+
+-- the loads of the columns that can be at the cut (i, j), and 0 for the others: one with a top pin has i ≥ 1, one with a bottom pin j ≥ 1
+abbrev pub possibleLoads : Loads → ℕ → ℕ → Loads
+possibleLoads l i j =
+    record {
+      top = cond (eqb i 0) 0 (l .top);
+      bottom = cond (eqb j 0) 0 (l .bottom);
+      both = cond (eqb i 0 || eqb j 0) 0 (l .both);
+    }

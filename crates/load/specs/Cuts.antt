@@ -3,7 +3,10 @@
 use Prim.Native.Nat.{ℕ, _+_, _*_, _≤_, _<_}
 use mathlib.Core.Path.{_≡_}
 use mathlib.Core.List.{List, _++_}
+use mathlib.Core.Bool.{cond, _||_}
+use mathlib.Core.Logic.{_⊎_}
 use lib.ListN.{length, getD}
+use lib.Dec.{eqb}
 use Rattle.channel.specs.Density.{weightOf, distinct}
 use Rattle.channel.specs.Word.{Letter, hasTop, hasBottom}
 use Rattle.channel.specs.Word.Letter.{top as T, bottom as B, both as TB}
@@ -25,21 +28,26 @@ netsIn part = nets (terminalsIn part)
 abbrev pub cellAt : ℕ → ℕ → ℕ
 cellAt i j = 3 * (65 * i + j)
 
--- the loads of the cut (i, j), of a column with a top pin only, a bottom pin only, and both.
--- A column with a top pin has i ≥ 1, and one with a bottom pin has j ≥ 1: what stands for any other is left open.
-pub record Cell (tops bottoms loads : List ℕ) (i j : ℕ) : Type 0 where
-  pub top : 1 ≤ i → getD loads (cellAt i j) 0 ≡ loadOf tops bottoms T i j
-  pub bottom : 1 ≤ j → getD loads (cellAt i j + 1) 0 ≡ loadOf tops bottoms B i j
-  pub both : 1 ≤ i → 1 ≤ j → getD loads (cellAt i j + 2) 0 ≡ loadOf tops bottoms TB i j
+-- the index k is none of that cut's three bytes
+abbrev pub Outside : ℕ → ℕ → ℕ → Type 0
+Outside i j k = (k < cellAt i j) ⊎ (cellAt i j + 3 ≤ k)
 
--- the table of all cuts, with p top and q bottom pins: i up to p and j up to q. It is as long as it was;
--- what stands in it for no such cut is left open, since nobody reads it.
+-- the loads of the cut (i, j), of a column with a top pin only, a bottom pin only, and both.
+-- A column with a top pin has i ≥ 1, and one with a bottom pin has j ≥ 1: where there is no such column, the byte is 0.
+pub record Cell (tops bottoms loads : List ℕ) (i j : ℕ) : Type 0 where
+  pub top : getD loads (cellAt i j) 0 ≡ cond (eqb i 0) 0 (loadOf tops bottoms T i j)
+  pub bottom : getD loads (cellAt i j + 1) 0 ≡ cond (eqb j 0) 0 (loadOf tops bottoms B i j)
+  pub both : getD loads (cellAt i j + 2) 0 ≡ cond (eqb i 0 || eqb j 0) 0 (loadOf tops bottoms TB i j)
+
+-- the loads of all cuts put into the table `old`: with p top and q bottom pins, i up to p and j up to q. All other bytes are as they
+-- were.
 pub record AllLoads (tops bottoms old new : List ℕ) : Type 0 where
   pub size : length new ≡ length old
   pub cell : (i j : ℕ) → i ≤ length tops → j ≤ length bottoms → Cell tops bottoms new i j
+  pub others : (k : ℕ) → ((i j : ℕ) → i ≤ length tops → j ≤ length bottoms → Outside i j k) → getD new k 0 ≡ getD old k 0
 
--- a write of cells into the table `old`, from index `from` on; `cells` says which
-pub record Written (tops bottoms old new : List ℕ) (from : ℕ) (cells : ℕ → ℕ → Type 0) : Type 0 where
+-- the same of some cuts: those that `cuts` names
+pub record Written (tops bottoms old new : List ℕ) (cuts : ℕ → ℕ → Type 0) : Type 0 where
   pub size : length new ≡ length old
-  pub cell : (i j : ℕ) → cells i j → Cell tops bottoms new i j
-  pub before : (k : ℕ) → k < from → getD new k 0 ≡ getD old k 0
+  pub cell : (i j : ℕ) → cuts i j → Cell tops bottoms new i j
+  pub others : (k : ℕ) → ((i j : ℕ) → cuts i j → Outside i j k) → getD new k 0 ≡ getD old k 0

@@ -58,10 +58,17 @@ pub record TwoSides (ns : List ℕ) (p : ℕ) : Type 0 where
 abbrev pub lastAt : List ℕ → ℕ → List ℕ
 lastAt ns m = cond (any (eqb (getD ns m 0)) (drop (m + 1) ns)) [] (getD ns m 0 ∷ [])
 
--- that net's span put behind the first k of a list of spans, which makes r of them
+-- that net's span put behind the first k of a list of spans, which makes r of them; what is behind them is as it was
 pub record Put (tops bottoms ns : List ℕ) (m : ℕ) (old new : List ℕ) (k r : ℕ) : Type 0 where
   pub count : r ≡ k + length (lastAt ns m)
   pub spans : take (5 * r) new ≡ take (5 * k) old ++ spansOf tops bottoms (lastAt ns m)
+  pub rest : drop (5 * r) new ≡ drop (5 * r) old
+
+-- the spans of all nets of a list, each once, put at the front of a list of spans: r of them; what is behind them is as it was
+pub record AllSpans (tops bottoms ns old new : List ℕ) (r : ℕ) : Type 0 where
+  pub count : r ≤ length ns
+  pub spans : take (5 * r) new ≡ spansOf tops bottoms (distinct ns)
+  pub rest : drop (5 * r) new ≡ drop (5 * r) old
 
 -- the spans of two sides: of each of their nets, once
 pub record Listed (tops bottoms list : List ℕ) : Type 0 where

@@ -6,10 +6,31 @@ use crate::counting::stand_at;
 use crate::nets::read_nets;
 use crate::spans::list_spans;
 ghost use mathlib.Core.Path.{_≡_};
-ghost use Prim.Native.Nat.{ℕ, _+_, _/_, _≤_, _<_};
+ghost use mathlib.Core.Bool.{cond};
+ghost use Prim.Native.Nat.{ℕ, _+_, _≤_, _<_};
 ghost use lib.ListN.{length, take, drop, set};
-ghost use Rattle.load.specs.Cuts.{netsIn, cellAt, AllLoads, Written};
+ghost use Rattle.sheet.specs.Parts.{terminalsIn};
+ghost use Rattle.load.specs.Counts.{possibleLoads};
+ghost use Rattle.load.specs.Cuts.{netsIn, AllLoads, Written};
 ghost use Rattle.load.specs.Ends.{TwoSides, Listed};
+
+// A load, or 0 where there is no such column.
+fn unless(none: bool, load: u8) -> u8
+    ensures { λ r. ⌜ r ≡ cond none 0 load ⌝ }
+{
+    if none { 0 } else { load }
+}
+
+// The loads of the columns that can be, and 0 for the others: one with a top pin has i ≥ 1, one with a bottom pin j ≥ 1.
+fn possible_loads(l: Loads, i: usize, j: usize) -> Loads
+    ensures { λ r. ⌜ r ≡ possibleLoads l i j ⌝ }
+{
+    Loads {
+        top: unless(i == 0, l.top),
+        bottom: unless(j == 0, l.bottom),
+        both: unless((i == 0) | (j == 0), l.both),
+    }
+}
 
 // Puts the loads of one cut into the table.
 fn store(loads: &mut [u8], at: usize, l: Loads)
@@ -24,18 +45,18 @@ fn store(loads: &mut [u8], at: usize, l: Loads)
 // Puts the loads of the cut (i, j) into the table.
 fn write_cell(tops: &[u16], bottoms: &[u16], spans: &[u16], i: usize, j: usize, loads: &mut [u8])
     requires { ⌜ Listed (now tops) (now bottoms) (now spans) × (i ≤ length (now tops)) × (j ≤ length (now bottoms)) × (length (now loads) ≡ 12675) ⌝ }
-    ensures { λ r. ⌜ Written (now (tops .entry)) (now (bottoms .entry)) (now (loads .entry)) (now (loads .exit)) (cellAt i j) (λ (x y : ℕ). (x ≡ i) × (y ≡ j)) ⌝ }
+    ensures { λ r. ⌜ Written (now (tops .entry)) (now (bottoms .entry)) (now (loads .entry)) (now (loads .exit)) (λ (x y : ℕ). (x ≡ i) × (y ≡ j)) ⌝ }
 {
     let top = stand_at(tops, i);
     let bottom = stand_at(bottoms, j);
-    let l = loads_at(spans, Cut { top, bottom });
+    let l = possible_loads(loads_at(spans, Cut { top, bottom }), i, j);
     store(loads, 3 * (65 * i + j), l);
 }
 
 // Puts the loads of all cuts with i top pins into the table.
 fn write_row(tops: &[u16], bottoms: &[u16], spans: &[u16], i: usize, loads: &mut [u8])
     requires { ⌜ Listed (now tops) (now bottoms) (now spans) × (i ≤ length (now tops)) × (length (now loads) ≡ 12675) ⌝ }
-    ensures { λ r. ⌜ Written (now (tops .entry)) (now (bottoms .entry)) (now (loads .entry)) (now (loads .exit)) (cellAt i 0) (λ (x y : ℕ). (x ≡ i) × (y < length (now (bottoms .entry)) + 1)) ⌝ }
+    ensures { λ r. ⌜ Written (now (tops .entry)) (now (bottoms .entry)) (now (loads .entry)) (now (loads .exit)) (λ (x y : ℕ). (x ≡ i) × (y < length (now (bottoms .entry)) + 1)) ⌝ }
 {
     let mut j = 0;
     while j < bottoms.len() + 1 {
@@ -67,14 +88,14 @@ fn tabulate(nets: &[u16], p: usize, loads: &mut [u8])
     write_table(&nets[..p], &nets[p..], &spans[..end], loads);
 }
 
-// The loads of all cuts of two sections, as `sheet::section` gives them, once per search.
+// The loads of all cuts of two sections, as `sheet::part_in` gives them, once per search.
 pub fn read_loads(top: &[u8], bottom: &[u8], loads: &mut [u8])
-    requires { ⌜ (length (now top) / 12 ≤ 64) × (length (now bottom) / 12 ≤ 64) × (length (now loads) ≡ 12675) ⌝ }
+    requires { ⌜ (length (terminalsIn (now top)) ≤ 64) × (length (terminalsIn (now bottom)) ≤ 64) × (length (now loads) ≡ 12675) ⌝ }
     ensures { λ r. ⌜ AllLoads (netsIn (now (top .entry))) (netsIn (now (bottom .entry))) (now (loads .entry)) (now (loads .exit)) ⌝ }
 {
     let mut nets: [u16; 128] = [0; 128];
-    let p = top.len() / 12;
-    let n = p + bottom.len() / 12;
+    let p = sheet::count_in(top);
+    let n = p + sheet::count_in(bottom);
     read_nets(top, &mut nets[..], 0);
     read_nets(bottom, &mut nets[..], p);
     tabulate(&nets[..n], p, loads);

@@ -4,8 +4,8 @@ ghost use mathlib.Core.List.{_++_};
 ghost use Prim.Native.Nat.{_+_, _*_, _≤_, _<_, min, max};
 ghost use lib.ListN.{length, take, drop};
 ghost use lib.Dec.{eqb};
-ghost use Rattle.channel.specs.Density.{any, distinct};
-ghost use Rattle.load.specs.Ends.{reached, endsOf, spanOf, numbersOf, spansOf, spanAt, TwoSides, Put};
+ghost use Rattle.channel.specs.Density.{any};
+ghost use Rattle.load.specs.Ends.{reached, endsOf, spanOf, numbersOf, spanAt, TwoSides, Put, AllSpans};
 
 // The first and last place of a net on one side, from 1; 255 and 0 if it has no pin there.
 pub struct Ends {
@@ -91,7 +91,7 @@ fn span_of(tops: &[u16], bottoms: &[u16], net: u16) -> Span
 // Puts a span into the list, at its index k.
 fn write_span(spans: &mut [u16], k: usize, s: Span)
     requires { ⌜ 5 * k + 5 ≤ length (now spans) ⌝ }
-    ensures { λ r. ⌜ take (5 * k + 5) (now (spans .exit)) ≡ take (5 * k) (now (spans .entry)) ++ numbersOf s ⌝ }
+    ensures { λ r. ⌜ now (spans .exit) ≡ take (5 * k) (now (spans .entry)) ++ (numbersOf s ++ drop (5 * k + 5) (now (spans .entry))) ⌝ }
 {
     let at = 5 * k;
     spans[at] = s.net;
@@ -140,7 +140,7 @@ fn list_net(nets: &[u16], p: usize, m: usize, spans: &mut [u16], k: usize) -> us
 // Lists the spans of all nets, each once, and gives their number.
 pub fn list_spans(nets: &[u16], p: usize, spans: &mut [u16]) -> usize
     requires { ⌜ TwoSides (now nets) p × (length (now spans) ≡ 640) ⌝ }
-    ensures { λ r. ⌜ (r ≤ length (now (nets .entry))) × (take (5 * r) (now (spans .exit)) ≡ spansOf (take p (now (nets .entry))) (drop p (now (nets .entry))) (distinct (now (nets .entry)))) ⌝ }
+    ensures { λ r. ⌜ AllSpans (take p (now (nets .entry))) (drop p (now (nets .entry))) (now (nets .entry)) (now (spans .entry)) (now (spans .exit)) r ⌝ }
 {
     let mut k = 0;
     let mut m = 0;

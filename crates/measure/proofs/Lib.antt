@@ -1,4 +1,4 @@
 pub mod Scans
 pub mod Sums
 pub mod Measures
-pub mod Assigned
+pub mod Returned

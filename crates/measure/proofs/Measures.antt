@@ -8,24 +8,19 @@ use native.Mathlib.Omega.{arith}
 use lib.ListN.{length, getD, take, drop, length-drop}
 use lib.Seq.{take-all}
 use borrow.Author.Tests.{eq-eqb, ne-eqb, not-true, not-false}
-use Rattle.channel.specs.Sheet.{Terminal, Sheet, terminals}
+use Rattle.channel.specs.Sheet.{Terminal, Sheet}
 use Rattle.channel.specs.Assignment.{topColumns, bottomColumns}
 use Rattle.channel.specs.Density.{Pin, pins, maximumTo, density}
 use Rattle.channel.specs.Cut.{nets}
 use Rattle.channel.specs.Spans.{Below, sumLast}
 use Rattle.channel.proofs.Spans.{density-spans}
-use Rattle.sheet.specs.declared.Checked.{Checked}
-use Rattle.sheet.specs.declared.Checked.the-variants.{Sound, Refused}
+use Rattle.sheet.specs.declared.Layout.{Layout}
+use Rattle.sheet.specs.declared.Opened.the-variants as opened
 use Rattle.sheet.specs.declared.Refusal.{Refusal}
 use Rattle.sheet.specs.declared.Shape.{Shape}
-use Rattle.sheet.specs.declared.Side.{Side}
-use Rattle.sheet.specs.declared.Side.the-variants.{Top, Bottom}
-use Rattle.sheet.specs.Check.{checkOf}
 use Rattle.sheet.specs.Read.{sheetOf}
-use Rattle.sheet.specs.Read.Read.{sound}
-use Rattle.sheet.specs.Parts.{shapeAs, shapeOf, sectionOf, terminalsIn, sideOf}
-use Rattle.sheet.proofs.Sections.{sound-read, section-terminals}
-use Rattle.sheet.proofs.Sounds.{read-sound}
+use Rattle.sheet.specs.Parts.{openedOf, bytesOf, terminalsIn}
+use Rattle.sheet.proofs.Laws.{read-sound, opened-refused, Opens, opens}
 use Rattle.measure.specs.declared.Measured.{Measured}
 use Rattle.measure.specs.declared.Measured.the-variants.{Density, Sheet as Unsound, Count, Allowed, Distance}
 use Rattle.measure.specs.Answer.{sideAllowed, allAllowed, sideKept, distancesKept, unless, listMeasured, sheetMeasured, measuredOf}
@@ -97,62 +92,61 @@ module _ (l : ℕ) (ts us : List Terminal) (cs : List ℕ) (p : ℕ) (size : p �
       pub measured : found ≡ false → (d : ℕ) → d ≡ density (sheetWith l ts us) cs → Density d ≡ listMeasured (sheetWith l ts us) cs
       measured e d g = ap Density g ∙ rw (top, bottom, not-false (bothKept ts us cs p) (sym answer ∙ e)) at sides
 
--- what is said of bytes that the sheet check refuses
-pub sheet-refused :
-    (b cs : List ℕ) (r : Checked) → r ≡ checkOf b → (why : Refusal) → r ≡ Refused why → Unsound why ≡ measuredOf b cs
+-- what is said of a sheet that does not open
+pub sheet-refused : (b cs : List ℕ) (why : Refusal) → openedOf b ≡ opened.Refused why → Unsound why ≡ measuredOf b cs
 unfolding measuredOf
-sheet-refused b cs r answer why e = rw (sym answer ∙ e)
+sheet-refused b cs why e = rw (opened-refused b why e)
 
--- and of bytes that it leaves, with their shape
-module _ (b cs : List ℕ) (sounds : checkOf b ≡ Sound) (form : Shape) (shaped : form ≡ shapeOf b) where
-  sound-shape : form ≡ shapeAs (sound (sheetOf b))
-  unfolding shapeOf
-  sound-shape = shaped ∙ ap shapeAs (sound-read b sounds)
+-- and of one that does, with its layout
+module _ (b cs : List ℕ) (n : Layout) (opening : openedOf b ≡ opened.Sound n) where
+  laws : Opens b n
+  laws = opens b n opening
 
   sound-measured : measuredOf b cs ≡ sheetMeasured (sheetOf b) cs
   unfolding measuredOf
-  sound-measured = rw sounds
+  sound-measured = rw (laws .checks)
 
-  pins-counted : form .pins ≡ length (sheetOf b .top) + length (sheetOf b .bottom)
-  pins-counted = ap (λ (f : Shape). f .pins) sound-shape
+  pins-counted : n .shape .pins ≡ length (sheetOf b .top) + length (sheetOf b .bottom)
+  pins-counted = ap (λ (f : Shape). f .pins) (laws .shape)
 
   -- 12
-  pub count-refused : (length cs ≡ form .pins → ⊥) → Count ≡ measuredOf b cs
+  pub count-refused : (length cs ≡ n .shape .pins → ⊥) → Count ≡ measuredOf b cs
   unfolding sheetMeasured
   count-refused h =
       sym
       (sound-measured
       ∙ rw (ne-eqb (length cs) (length (sheetOf b .top) + length (sheetOf b .bottom)) (λ e. h (e ∙ sym pins-counted))))
 
-  -- a section has its side's terminals
-  part-terminals : (side : Side) (part : List ℕ) → part ≡ sectionOf b side → terminalsIn part ≡ terminals (sheetOf b) (sideOf side)
-  part-terminals side part e = ap terminalsIn e ∙ section-terminals b (sheetOf b) (sound-read b sounds) side
-
-  columns-counted : form .columns ≡ sheetOf b .columns
-  columns-counted = ap (λ (f : Shape). f .columns) sound-shape
+  columns-counted : n .shape .columns ≡ sheetOf b .columns
+  columns-counted = ap (λ (f : Shape). f .columns) (laws .shape)
 
   -- a list that is p+q long, beside the two sections
-  module _ (long : length cs ≡ form .pins) (top bottom : List ℕ) (isTop : top ≡ sectionOf b Top)
-      (isBottom : bottom ≡ sectionOf b Bottom) where
-    pub laid : Laid top bottom cs (form .top) (form .columns)
+  module _ (long : length cs ≡ n .shape .pins) (top bottom : List ℕ) (isTop : top ≡ bytesOf b (n .top))
+      (isBottom : bottom ≡ bytesOf b (n .bottom)) where
+    top-terminals : terminalsIn top ≡ sheetOf b .top
+    top-terminals = ap terminalsIn isTop ∙ laws .top
+
+    bottom-terminals : terminalsIn bottom ≡ sheetOf b .bottom
+    bottom-terminals = ap terminalsIn isBottom ∙ laws .bottom
+
+    pub laid : Laid top bottom cs (n .shape .top) (n .shape .columns)
     laid =
-        let s = read-sound b (sheetOf b) (sound-read b sounds) in
-        let p : form .top ≡ length (sheetOf b .top) = ap (λ (f : Shape). f .top) sound-shape in
-        let ts : length (terminalsIn top) ≡ length (sheetOf b .top) = ap length (part-terminals Top top isTop) in
-        let us : length (terminalsIn bottom) ≡ length (sheetOf b .bottom) = ap length (part-terminals Bottom bottom isBottom) in
+        let s = read-sound b (sheetOf b) (laws .reads) in
+        let p : n .shape .top ≡ length (sheetOf b .top) = ap (λ (f : Shape). f .top) (laws .shape) in
         record {
-          tops = p ∙ sym ts;
-          long = omega (arith, pins-counted);
+          tops = p ∙ sym (ap length top-terminals);
+          long = omega (arith, pins-counted, p, ap length bottom-terminals);
           few = omega (arith, pins-counted, s .counts);
           short = omega (arith, columns-counted, s .columns);
         }
 
     pub list-measured :
-        (m : Measured) → m ≡ listMeasured (sheetWith (form .columns) (terminalsIn top) (terminalsIn bottom)) cs → m ≡ measuredOf b cs
+        (m : Measured) → m ≡ listMeasured (sheetWith (n .shape .columns) (terminalsIn top) (terminalsIn bottom)) cs
+        → m ≡ measuredOf b cs
     unfolding sheetMeasured
     list-measured m e =
-        let same : sheetWith (form .columns) (terminalsIn top) (terminalsIn bottom) ≡ sheetOf b
-        = rw (columns-counted, part-terminals Top top isTop, part-terminals Bottom bottom isBottom) in
+        let same : sheetWith (n .shape .columns) (terminalsIn top) (terminalsIn bottom) ≡ sheetOf b
+        = rw (columns-counted, top-terminals, bottom-terminals) in
         e
         ∙ ap (λ (s : Sheet). listMeasured s cs) same
         ∙ sym (sound-measured ∙ rw (eq-eqb (length cs) (length (sheetOf b .top) + length (sheetOf b .bottom)) (long ∙ pins-counted)))

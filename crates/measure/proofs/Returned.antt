@@ -1,24 +1,25 @@
--- A measurement of a sound sheet is a density exactly when the list is an assignment.
+-- What a measurement returned: on a sound sheet a density exactly when the list is an assignment.
 -- Assumes nothing.
 use Prim.Native.Nat.{ℕ, _+_}
 use mathlib.Core.Path.{_≡_, refl, sym, _∙_, ap}
-use mathlib.Core.Logic.{_↔_}
 use mathlib.Core.List.{List, [], _∷_}
-use mathlib.Core.Bool.{Bool, true, false, _&&_, and-assoc, false≢true}
+use mathlib.Core.Bool.{Bool, true, false, _&&_, and-assoc, and-eq-true-iff}
 use native.Mathlib.Omega.{arith}
 use lib.ListN.{length, take, drop, length-append, length-drop, take-append-drop}
 use lib.Seq.{length-take-le}
 use lib.Dec.{eqb}
-use borrow.Author.Tests.{eqb-true, eqb-false}
+use borrow.Author.Tests.{eqb-true, eqb-false, eq-eqb, ne-eqb}
 use Rattle.channel.specs.Sheet.{Terminal, Sheet}
 use Rattle.channel.specs.Assignment.{allows, inRange, laterFit, sideFits, fits, topColumns, bottomColumns, assignment?}
 use Rattle.channel.specs.Density.{density}
 use Rattle.channel.proofs.Assignments.{fits-lengths}
 use Rattle.sheet.specs.Read.{read}
-use Rattle.sheet.specs.Read.Read.{sound}
-use Rattle.sheet.proofs.Sounds.{read-checked}
-use Rattle.measure.specs.declared.Measured.the-variants.{Density, Count, Allowed, Distance}
-use Rattle.measure.specs.Answer.{sideAllowed, allAllowed, laterKept, sideKept, distancesKept, unless, listMeasured, sheetMeasured, measuredOf}
+use Rattle.sheet.specs.Read.Read.{sound, refused}
+use Rattle.sheet.proofs.Laws.{read-checked, read-refused}
+use Rattle.measure.specs.declared.Measured.{Measured}
+use Rattle.measure.specs.declared.Measured.the-variants.{Density, Sheet as Unsound, Count, Allowed, Distance}
+use Rattle.measure.specs.Answer.{sideAllowed, allAllowed, laterKept, sideKept, distancesKept, unless, listMeasured, sheetMeasured, measuredOf, numberOf, densityOf}
+use Rattle.measure.specs.Returned.{Long, Refuses, Returned}
 
 -- two pairs of tests, regrouped
 regroup : (w x y z : Bool) → (w && x && (y && z)) ≡ (w && y && (x && z))
@@ -81,22 +82,64 @@ assignment-tests s cs = by-length (eqb (length cs) (length (s .top) + length (s 
         (regroup (sideAllowed (s .top) tops) (sideKept (s .top) tops) (sideAllowed (s .bottom) bottoms) (sideKept (s .bottom) bottoms))
     by-length false e = short (sideFits (s .top) tops && sideFits (s .bottom) bottoms) refl (eqb-false _ _ e)
 
--- the answer is the density exactly when no test refuses
+-- a number other than 0 is a refusal's
 tests-passed :
-    (n a k : Bool) (d : ℕ)
-    → (unless n Count (unless a Allowed (unless k Distance (Density d))) ≡ Density d) ↔ ((n && (a && k)) ≡ true)
-tests-passed true true true d = (λ e. refl, λ e. refl)
-tests-passed true true false d = (λ e. let z : _≡_ {A = ℕ} 0 1 = cc in absurd (omega arith), λ e. absurd (false≢true e))
-tests-passed true false k d = (λ e. let z : _≡_ {A = ℕ} 0 1 = cc in absurd (omega arith), λ e. absurd (false≢true e))
-tests-passed false a k d = (λ e. let z : _≡_ {A = ℕ} 0 1 = cc in absurd (omega arith), λ e. absurd (false≢true e))
+    (n a k : Bool) (d : ℕ) → numberOf (unless n Count (unless a Allowed (unless k Distance (Density d)))) ≡ 0 → (n && (a && k)) ≡ true
+tests-passed true true true d e = refl
+tests-passed true true false d e = absurd (omega arith)
+tests-passed true false k d e = absurd (omega arith)
+tests-passed false a k d e = absurd (omega arith)
 
--- on a sound sheet
-pub measured-assignment :
-    (b : List ℕ) (s : Sheet) → read b ≡ sound s → (cs : List ℕ) → (measuredOf b cs ≡ Density (density s cs)) ↔ (assignment? s cs ≡ true)
-unfolding measuredOf sheetMeasured listMeasured
-measured-assignment b s h cs =
-    let (passed, same) = read-checked b s h in
-    let answer : measuredOf b cs ≡ sheetMeasured s cs = rw (passed, ← same) in
-    let long : Bool = eqb (length cs) (length (s .top) + length (s .bottom)) in
-    let tests = tests-passed long (allAllowed s cs) (distancesKept s cs) (density s cs) in
-    (λ e. assignment-tests s cs ∙ tests .0 (sym answer ∙ e), λ e. answer ∙ tests .1 (sym (assignment-tests s cs) ∙ e))
+module _ (bytes columns : List ℕ) (r : Measured) (answer : r ≡ measuredOf bytes columns) where
+  -- the answer is known to be a
+  refuses : (n : ℕ) (a : Measured) → numberOf a ≡ n → densityOf a ≡ 0 → measuredOf bytes columns ≡ a → Refuses n (numberOf r) (densityOf r)
+  refuses n a number none e = (ap numberOf (answer ∙ e) ∙ number, ap densityOf (answer ∙ e) ∙ none)
+
+  unsound : (n : ℕ) → read bytes ≡ refused n → Refuses n (numberOf r) (densityOf r)
+  unfolding measuredOf
+  unsound n h =
+      let (why, checks, number) = read-refused bytes n h in
+      refuses n (Unsound why) number refl (rw checks)
+
+  module _ (s : Sheet) (h : read bytes ≡ sound s) where
+    of-sheet : measuredOf bytes columns ≡ sheetMeasured s columns
+    unfolding measuredOf
+    of-sheet = let (checks, same) = read-checked bytes s h in rw (checks, ← same)
+
+    other : (Long s columns → ⊥) → Refuses 12 (numberOf r) (densityOf r)
+    unfolding sheetMeasured
+    other fails = refuses 12 Count refl refl (of-sheet ∙ rw (ne-eqb _ _ fails))
+
+    beyond : Long s columns → allAllowed s columns ≡ false → Refuses 13 (numberOf r) (densityOf r)
+    unfolding sheetMeasured listMeasured
+    beyond long fails = refuses 13 Allowed refl refl (of-sheet ∙ rw (eq-eqb _ _ long, fails))
+
+    apart : Long s columns → allAllowed s columns ≡ true → distancesKept s columns ≡ false → Refuses 14 (numberOf r) (densityOf r)
+    unfolding sheetMeasured listMeasured
+    apart long all fails = refuses 14 Distance refl refl (of-sheet ∙ rw (eq-eqb _ _ long, all, fails))
+
+    measures : assignment? s columns ≡ true → (numberOf r ≡ 0) × (densityOf r ≡ density s columns)
+    unfolding sheetMeasured listMeasured
+    measures holds =
+        let tests = sym (assignment-tests s columns) ∙ holds in
+        let (long, both) = and-eq-true-iff (eqb (length columns) (length (s .top) + length (s .bottom))) _ .0 tests in
+        let (all, kept) = and-eq-true-iff (allAllowed s columns) (distancesKept s columns) .0 both in
+        let e : r ≡ Density (density s columns) = answer ∙ of-sheet ∙ rw (long, all, kept) in
+        (ap numberOf e, ap densityOf e)
+
+    only : numberOf r ≡ 0 → assignment? s columns ≡ true
+    unfolding sheetMeasured listMeasured
+    only none =
+        assignment-tests s columns
+        ∙ tests-passed (eqb (length columns) (length (s .top) + length (s .bottom))) (allAllowed s columns) (distancesKept s columns)
+        (density s columns) (sym (ap numberOf (answer ∙ of-sheet)) ∙ none)
+
+  -- demands 1 and 2 of one measurement
+  pub one-measurement : Returned bytes columns (numberOf r) (densityOf r)
+  one-measurement =
+      record {
+        unsound = unsound;
+        decides =
+            λ s h.
+            record { other = other s h; beyond = beyond s h; apart = apart s h; measures = measures s h; only = only s h };
+      }

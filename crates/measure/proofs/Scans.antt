@@ -14,6 +14,7 @@ use Rattle.channel.specs.Assignment.{allows, inRange}
 use Rattle.sheet.specs.declared.Record.{Record}
 use Rattle.sheet.specs.Format.{recordOf}
 use Rattle.sheet.specs.Parts.{nth, terminalsIn, entryIn}
+use Rattle.sheet.proofs.Laws.{entry-in}
 use Rattle.measure.specs.Answer.{sideAllowed, laterKept, sideKept}
 use Rattle.measure.specs.Inner.{recordOr, ofSide}
 
@@ -33,8 +34,7 @@ nth-record (t ∷ ts) (suc i) = nth-record ts i
 
 -- the record at place i + 1 of a section is that of its terminal i
 pub record-terminal : (part : List ℕ) (i : ℕ) → recordOr (entryIn part (i + 1)) ≡ recordOf (getD (terminalsIn part) i noTerminal)
-unfolding entryIn
-record-terminal part i = rw add-one (nth-record (terminalsIn part) i)
+record-terminal part i = rw (entry-in, add-one) (nth-record (terminalsIn part) i)
 
 -- one place of a side, of which r is the record: the rest is said by the places behind it
 module _ (part columns : List ℕ) (same : length columns ≡ length (terminalsIn part)) (i : ℕ) (inside : i < length columns)

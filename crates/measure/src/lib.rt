@@ -9,9 +9,8 @@ pub use answer::number_of;
 use count::list_density;
 use rules::all_allowed;
 use rules::out_of_range;
-use sheet::Checked;
+use sheet::Opened;
 use sheet::Refusal;
-use sheet::Side;
 ghost use mathlib.Core.Path.{_≡_};
 ghost use Rattle.sheet.specs.Parts.{terminalsIn};
 ghost use Rattle.measure.specs.Answer.{measuredOf, listMeasured};
@@ -30,16 +29,16 @@ pub enum Measured {
 pub fn measure(s: &[u8], columns: &[u8]) -> Measured
     ensures { λ r. ⌜ r ≡ measuredOf (now (s .entry)) (now (columns .entry)) ⌝ }
 {
-    let checked = sheet::check(s);
-    match checked {
-        Checked::Refused(why) => Measured::Sheet(why),
-        Checked::Sound => {
-            let shape = sheet::sound_shape(s);
+    let opened = sheet::open(s);
+    match opened {
+        Opened::Refused(why) => Measured::Sheet(why),
+        Opened::Sound(layout) => {
+            let shape = layout.shape;
             if columns.len() != shape.pins {
                 return Measured::Count;
             }
-            let top = sheet::sound_section(s, Side::Top);
-            let bottom = sheet::sound_section(s, Side::Bottom);
+            let top = sheet::part_in(s, layout.top);
+            let bottom = sheet::part_in(s, layout.bottom);
             measure_list(top, bottom, columns, shape.top, shape.columns)
         }
     }

@@ -15,7 +15,8 @@ use Rattle.sheet.specs.declared.Step.the-variants.{Finished}
 use Rattle.sheet.specs.declared.Visit.{Visit}
 use Rattle.sheet.specs.Read.{Read, read}
 use Rattle.sheet.specs.Read.Read.{sound, refused}
-use Rattle.sheet.specs.Walk.{visits, walk, stepIn, stepAs, stepOf}
+use Rattle.sheet.specs.Walk.{visits, walk, stepIn, stepAs}
+use Rattle.sheet.proofs.Laws.{walk-of, step-of}
 use Rattle.reader.specs.Reader.{stepAt, passedAfter}
 use Rattle.reader.specs.Steps.{placeAfter, stepNumber, terminalOf, terminalsBy, Reads}
 
@@ -68,21 +69,19 @@ length-visits side k [] = refl
 length-visits side k (t ∷ ts) = ap suc (length-visits side (k + 1) ts)
 
 length-walk : (s : Sheet) → length (walk s) ≡ length (s .top) + length (s .bottom)
-unfolding walk
 length-walk s =
-    length-append (visits Top 1 (s .top)) (visits Bottom 1 (s .bottom))
+    ap length (walk-of s)
+    ∙ length-append (visits Top 1 (s .top)) (visits Bottom 1 (s .bottom))
     ∙ (λ i. length-visits Top 1 (s .top) i + length-visits Bottom 1 (s .bottom) i)
 
 reads-as : (b : List ℕ) (r : Read) → ((p : ℕ) → stepAt b p ≡ stepAs p r) → Reads b r
-unfolding walk
 reads-as b (sound s) has =
     record {
-      each = λ n. first b (walk s) has n .0;
+      each = λ n. first b (walk s) has n .0 ∙ ap (take n) (walk-of s);
       end = λ n h. finishes b (walk s) has n (omega (arith, length-walk s, h));
     }
 reads-as b (refused why) has = λ n. has (placeAfter b n)
 
 -- the promise, for all bytes
 pub reads : (b : List ℕ) → Reads b (read b)
-unfolding stepOf
-reads b = reads-as b (read b) (λ p. refl)
+reads b = reads-as b (read b) (λ p. step-of b _)

@@ -11,6 +11,7 @@ use borrow.Author.Tests.{lt-ltb, le-ltb}
 use Rattle.channel.specs.Sheet.{Sheet}
 use Rattle.sheet.specs.Read.{sheetOf}
 use Rattle.sheet.specs.Parts.{shapeOf}
+use Rattle.sheet.proofs.Laws.{shape-read}
 use Rattle.search.specs.declared.Searched.{Searched}
 use Rattle.search.specs.declared.Searched.the-variants as searched
 use Rattle.search.specs.Answer.{numberOf, densityOf, Searches}
@@ -69,15 +70,13 @@ module _ (input buffer work buffer' work' : List ℕ) (r : Searched) (searches :
         found-best = finds input (length buffer) (length work) d (sym (searches .answer) ∙ is-found)
 
         pub found-pins : shapeOf input .pins ≤ 128
-        unfolding shapeOf
-        found-pins = rw (found-best .long .reads, ← columns) (found-best .long .pins)
+        found-pins = rw (shape-read input (sheetOf input) (found-best .long .reads), ← columns) (found-best .long .pins)
 
         pub found-text : headed d (lines (walkOf input) (take (shapeOf input .pins) buffer')) ≡ printed input
-        unfolding shapeOf walkOf
+        unfolding walkOf
         found-text =
             let f = found-best in
-            rw
-            (f .long .reads, columns-found input buffer work buffer' work' r searches (sheetOf input) (f .long) d (f .columns) (f .best))
+            rw (shape-read input (sheetOf input) (f .long .reads), f .long .reads, columns-found searches (f .long) (f .best))
             (ap (result (sheetOf input)) (sym (f .best)) ∙ ap (λ (k : Searched). answered k (sheetOf input)) (sym is-found) ∙ answer-text)
 
 -- the text lies within the buffer

@@ -13,6 +13,7 @@ use Rattle.sheet.specs.declared.Visit.{Visit}
 use Rattle.sheet.specs.Read.{Read, read}
 use Rattle.sheet.specs.Read.Read.{sound, refused}
 use Rattle.sheet.specs.Walk.{stepIn, stepAs, stepOf}
+use Rattle.sheet.proofs.Laws.{step-of}
 use Rattle.report.specs.Text.{line, lines}
 use Rattle.report.specs.Writing.{stepLine, walkAs, walkOf}
 
@@ -37,8 +38,8 @@ step-walk k (refused n) = refl
 pub next-line :
     (b cs : List ℕ) (k : ℕ) (step : Step) → step ≡ stepOf b (record { passed = k }) → k < length cs
     → lines (take k (walkOf b)) (take k cs) ++ stepLine step (getD cs k 0) ≡ lines (take (k + 1) (walkOf b)) (take (k + 1) cs)
-unfolding walkOf stepOf
-next-line b cs k step e h = rw (e, step-walk k (read b), add-one k) (one-more (walkAs (read b)) cs k (next k) h)
+unfolding walkOf
+next-line b cs k step e h = rw (e, step-of b (record { passed = k }), step-walk k (read b), add-one k) (one-more (walkAs (read b)) cs k (next k) h)
 
 -- no line is left once each column has one
 pub all-lines : (vs : List Visit) (cs : List ℕ) (k : ℕ) → length cs ≤ k → lines (take k vs) (take k cs) ≡ lines vs cs

@@ -1,25 +1,22 @@
 -- Why the search keeps its promise: each way out of it, from what its calls answered.
 -- Assumes nothing.
-use Prim.Native.Nat.{ℕ, _+_, _≤_, _<_}
+use Prim.Native.Nat.{ℕ, _≤_, _<_}
 use mathlib.Core.Path.{_≡_, refl, sym, _∙_, ap, ap₂}
-use mathlib.Core.List.{List, _++_}
+use mathlib.Core.List.{List}
 use native.Mathlib.Omega.{arith}
-use lib.ListN.{length, drop, replicate}
+use lib.ListN.{length}
 use borrow.Author.Tests.{lt-ltb, le-ltb}
-use Rattle.channel.specs.Sheet.{Terminal, Sheet, Sound}
+use Rattle.channel.specs.Sheet.{Terminal, Sheet}
 use Rattle.channel.specs.Best.{Found, best}
 use Rattle.channel.specs.Best.Found.{none, found}
 use Rattle.sheet.specs.declared.Checked.{Checked}
-use Rattle.sheet.specs.declared.Checked.the-variants as checked
+use Rattle.sheet.specs.declared.Layout.{Layout}
+use Rattle.sheet.specs.declared.Opened.the-variants as opened
 use Rattle.sheet.specs.declared.Refusal.{Refusal}
 use Rattle.sheet.specs.declared.Shape.{Shape}
-use Rattle.sheet.specs.declared.Side.the-variants.{Top, Bottom}
-use Rattle.sheet.specs.Check.{checkOf}
-use Rattle.sheet.specs.Read.{sheetOf, read}
-use Rattle.sheet.specs.Read.Read.{sound}
-use Rattle.sheet.specs.Parts.{shape, shapeAs, shapeOf, sectionOf, terminalsIn}
-use Rattle.sheet.proofs.Sections.{sound-read, section-terminals}
-use Rattle.sheet.proofs.Sounds.{read-sound}
+use Rattle.sheet.specs.Read.{sheetOf}
+use Rattle.sheet.specs.Parts.{shape, openedOf, bytesOf, terminalsIn}
+use Rattle.sheet.proofs.Laws.{read-sound, opened-refused, Opens, opens}
 use Rattle.search.specs.declared.Searched.{Searched}
 use Rattle.search.specs.declared.Searched.the-variants as searched
 use Rattle.search.specs.declared.pass.Outcome.{Outcome}
@@ -41,29 +38,27 @@ module _ (b columns work : List ℕ) where
       }
 
   -- 1 to 8
-  pub answers-sheet :
-      (r : Checked) (why : Refusal) → r ≡ checkOf b → r ≡ checked.Refused why → Searches b columns work columns work (searched.Sheet why)
+  pub answers-sheet : (why : Refusal) → openedOf b ≡ opened.Refused why → Searches b columns work columns work (searched.Sheet why)
   unfolding searchedOf
-  answers-sheet r why e f = answered columns work _ (rw (sym e ∙ f)) refl refl
+  answers-sheet why e = answered columns work _ (rw (opened-refused b why e)) refl refl
 
-  -- a sound sheet, with its shape
-  module _ (n : Shape) (sounds : checkOf b ≡ checked.Sound) (shapes : n ≡ shapeOf b) where
-    reads : read b ≡ sound (sheetOf b)
-    reads = sound-read b sounds
+  -- a sheet that opens, with its layout
+  module _ (layout : Layout) (opening : openedOf b ≡ opened.Sound layout) where
+    laws : Opens b layout
+    laws = opens b layout opening
 
-    numbers : n ≡ shape (sheetOf b .columns) (length (sheetOf b .top)) (length (sheetOf b .bottom))
-    unfolding shapeOf
-    numbers = shapes ∙ ap shapeAs reads
+    abbrev n : Shape
+    n = layout .shape
 
     answers : (k m : ℕ) → searchedOf b k m ≡ answerIn (sheetOf b) k m
     unfolding searchedOf
-    answers k m = ap (λ (r : Checked). answerIf r (sheetOf b) k m) sounds
+    answers k m = ap (λ (r : Checked). answerIf r (sheetOf b) k m) (laws .checks)
 
     pins : n .pins ≡ pinsNeeded (sheetOf b)
-    pins = ap (λ (k : Shape). k .pins) numbers
+    pins = ap (λ (k : Shape). k .pins) (laws .shape)
 
     cells : n .cells ≡ cellsNeeded (sheetOf b)
-    cells = ap (λ (k : Shape). k .cells) numbers
+    cells = ap (λ (k : Shape). k .cells) (laws .shape)
 
     -- 9 and 10
     pub answers-columns : length columns < n .pins → Searches b columns work columns work searched.Columns
@@ -80,38 +75,35 @@ module _ (b columns work : List ℕ) where
         answered columns work _ (sym (answers _ _ ∙ rw (le-ltb _ _ enough, lt-ltb _ _ less))) refl refl
 
     -- the sections are those of the sheet
-    module _ (tops bottoms : List ℕ) (first : tops ≡ sectionOf b Top) (second : bottoms ≡ sectionOf b Bottom) where
+    module _ (tops bottoms : List ℕ) (first : tops ≡ bytesOf b (layout .top)) (second : bottoms ≡ bytesOf b (layout .bottom)) where
       same-sheet : sheetIn (n .columns) tops bottoms ≡ sheetOf b
       same-sheet =
           ap₂ (λ (ts bs : List Terminal). record { columns = n .columns; top = ts; bottom = bs })
-          (ap terminalsIn first ∙ section-terminals b (sheetOf b) reads Top)
-          (ap terminalsIn second ∙ section-terminals b (sheetOf b) reads Bottom)
-          ∙ ap (λ (k : ℕ). record { columns = k; top = sheetOf b .top; bottom = sheetOf b .bottom }) (ap (λ (k : Shape). k .columns) numbers)
+          (ap terminalsIn first ∙ laws .top)
+          (ap terminalsIn second ∙ laws .bottom)
+          ∙ ap (λ (k : ℕ). record { columns = k; top = sheetOf b .top; bottom = sheetOf b .bottom }) (ap (λ (k : Shape). k .columns) (laws .shape))
 
       pub solve-asked :
           n .pins ≤ length columns → n .cells ≤ length work → Asked tops bottoms n (length columns) (length work)
       solve-asked g h =
           record {
-            sound = rw same-sheet (read-sound b (sheetOf b) reads);
+            sound = rw same-sheet (read-sound b (sheetOf b) (laws .reads));
             numbers =
-                numbers
+                laws .shape
                 ∙ sym (ap (λ (s : Sheet). shape (s .columns) (length (s .top)) (length (s .bottom))) same-sheet);
             pins = g;
             cells = h;
           }
 
-      -- the least density or 11, with the cells cleared
-      module _ (g : n .pins ≤ length columns) (h : n .cells ≤ length work) (columns' mid work' : List ℕ) (r : Outcome)
-          (solved : Solved tops bottoms n columns columns' work mid r) (clears : work' ≡ replicate (n .cells) 0 ++ drop (n .cells) mid)
+      -- the least density or 11
+      module _ (g : n .pins ≤ length columns) (h : n .cells ≤ length work) (columns' work' : List ℕ) (r : Outcome)
+          (solved : Solved tops bottoms n columns columns' work work' r)
         where
           written : columns' ≡ withColumns (best (sheetOf b)) columns
           written = solved .written ∙ ap (λ (s : Sheet). withColumns (best s) columns) same-sheet
 
           zeros : work' ≡ cleared (cellsNeeded (sheetOf b)) work
-          zeros =
-              clears
-              ∙ ap (λ (rest : List ℕ). replicate (n .cells) 0 ++ rest) (solved .behind)
-              ∙ ap (λ (k : ℕ). cleared k work) cells
+          zeros = solved .cells ∙ ap (λ (k : ℕ). cleared k work) cells
 
           enough : searchedOf b (length columns) (length work) ≡ answerAs (best (sheetOf b))
           unfolding answerIn

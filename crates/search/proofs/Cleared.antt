@@ -1,12 +1,12 @@
 -- Laws of the work cells over the passes: cleared cells, and cells that keep their number.
 -- Assumes nothing.
 use Prim.Native.Nat.{ℕ, _+_, _-_, _≤_}
-use mathlib.Core.Path.{_≡_, refl, _∙_, ap}
+use mathlib.Core.Path.{_≡_, _∙_, ap}
 use mathlib.Core.List.{List, _++_}
 use native.Mathlib.Omega.{arith}
 use lib.ListN.{length, drop, replicate, length-append, length-replicate, length-drop}
 use Rattle.table.specs.declared.Grid.{Grid}
-use Rattle.table.specs.Room.{Filled}
+use Rattle.table.specs.Room.{SameGaps, Filled}
 use Rattle.search.specs.declared.pass.Plan.{Plan}
 use Rattle.search.specs.Walking.{Lies}
 use Rattle.search.specs.Pass.{Given}
@@ -24,8 +24,10 @@ pub given-kept :
 given-kept old new rules loads n e g =
     record { sides = g .sides; lies = lies-kept old new rules _ _ _ e (g .lies); bottoms = g .bottoms; columns = g .columns }
 
--- a filled table, said of itself
-pub filled-here :
-    (rules loads : List ℕ) (bound : ℕ) (g : Grid) (i j end : ℕ) (old new : List ℕ) → Filled rules loads bound g i j end old new
-    → Filled rules loads bound g i j end new new
-filled-here rules loads bound g i j end old new f = record { kept = refl; behind = refl; cells = f .cells }
+-- a fill of cells in which nothing but the table's rows was changed before
+pub filled-after :
+    {rules loads : List ℕ} {bound : ℕ} {g : Grid} {i j end : ℕ} {old mid new : List ℕ} → length mid ≡ length old
+    → drop end mid ≡ drop end old → SameGaps g old mid → Filled rules loads bound g i j end mid new
+    → Filled rules loads bound g i j end old new
+filled-after kept behind gaps f =
+    record { kept = f .kept ∙ kept; behind = f .behind ∙ behind; gaps = λ k h. f .gaps k h ∙ gaps k h; cells = f .cells }

@@ -6,7 +6,7 @@ use mathlib.Core.List.{List, _++_}
 use mathlib.Core.Bool.{Bool, true, false, cond}
 use native.Mathlib.Omega.{arith}
 use lib.ListN.{length, take, drop, length-append, take-append-drop}
-use lib.Seq.{take-at}
+use lib.Seq.{take-at, drop-at}
 use lib.Dec.{ltb}
 use borrow.Author.Tests.{le-ltb, ltb-false}
 use Rattle.channel.specs.Sheet.{Sheet}
@@ -20,14 +20,14 @@ use Rattle.sheet.specs.declared.Checked.the-variants as checked
 use Rattle.sheet.specs.declared.Refusal.{Refusal}
 use Rattle.sheet.specs.declared.Refusal.the-variants as refusal
 use Rattle.sheet.specs.Check.{checkOf}
-use Rattle.sheet.specs.Read.{readAs, read, sheetOf}
+use Rattle.sheet.specs.Read.{read, sheetOf}
 use Rattle.sheet.specs.Read.Read.{sound}
 use Rattle.sheet.specs.Refusals as sheet
-use Rattle.sheet.proofs.Sounds.{read-checked, read-sound}
+use Rattle.sheet.proofs.Laws.{read-checked, read-sound, sound-read}
 use Rattle.search.specs.declared.Searched.{Searched}
 use Rattle.search.specs.declared.Searched.the-variants as searched
 use Rattle.search.specs.Answer.{pinsNeeded, cellsNeeded, answerAs, answerIn, answerIf, searchedOf, columnsAfter, numberOf, densityOf, Searches}
-use Rattle.search.specs.Pair.{Gave, LongEnough}
+use Rattle.search.specs.Returned.{Gives, LongEnough}
 
 -- an assignment has a column for each terminal
 assignment-length : (s : Sheet) (es : List ℕ) → assignment? s es ≡ true → length es ≡ pinsNeeded s
@@ -39,7 +39,7 @@ assignment-length s es h =
     ∙ ap₂ (λ (m n : ℕ). m + n) t b
 
 -- a search of a sound sheet whose best assignment is known
-module _ (bytes buffer work buffer' work' : List ℕ) (r : Searched) (searches : Searches bytes buffer work buffer' work' r) (s : Sheet)
+module _ {bytes buffer work buffer' work' : List ℕ} {r : Searched} (searches : Searches bytes buffer work buffer' work' r) {s : Sheet}
     (long : LongEnough bytes s (length buffer) (length work))
   where
     -- its answer
@@ -50,24 +50,41 @@ module _ (bytes buffer work buffer' work' : List ℕ) (r : Searched) (searches :
         rw (e, ← same, le-ltb _ _ (long .pins), le-ltb _ _ (long .cells))
 
     -- its columns
-    module _ (d : ℕ) (cs : List ℕ) (e : best s ≡ found d cs) where
-      is-best : IsBest s d cs
+    module _ {d : ℕ} {cs : List ℕ} (e : best s ≡ found d cs) where
+      pub is-best : IsBest s d cs
       is-best = subst (Answers s) e (best-answers s (read-sound bytes s (long .reads)))
 
-      answers-found : searchedOf bytes (length buffer) (length work) ≡ searched.Found d
+      pub answers-found : searchedOf bytes (length buffer) (length work) ≡ searched.Found d
       answers-found = answers-best ∙ ap answerAs e
 
-      pub columns-found : take (pinsNeeded s) buffer' ≡ cs
+      columns-written : buffer' ≡ cs ++ drop (length cs) buffer
       unfolding columnsAfter
-      columns-found =
+      columns-written =
           let (checks, same) = read-checked bytes s (long .reads) in
-          let columns : buffer' ≡ cs ++ drop (length cs) buffer = searches .columns ∙ rw (answers-found, ← same, e) in
-          ap (take (pinsNeeded s)) columns
-          ∙ take-at cs (drop (length cs) buffer) (pinsNeeded s) (assignment-length s cs (is-best .assignment))
+          searches .columns ∙ rw (answers-found, ← same, e)
 
-      -- and what it gave
-      pub gave : Gave s r buffer' d
-      gave = record { answer = searches .answer ∙ answers-found; best = rw columns-found is-best }
+      columns-count : length cs ≡ pinsNeeded s
+      columns-count = assignment-length s cs (is-best .assignment)
+
+      pub columns-found : take (pinsNeeded s) buffer' ≡ cs
+      columns-found = ap (take (pinsNeeded s)) columns-written ∙ take-at cs (drop (length cs) buffer) (pinsNeeded s) columns-count
+
+      -- what it gives
+      pub density-found : densityOf r ≡ d
+      density-found = ap densityOf (searches .answer ∙ answers-found)
+
+      pub gives : Gives s (numberOf r) (densityOf r) buffer'
+      gives =
+          record {
+            returned = ap numberOf (searches .answer ∙ answers-found);
+            best = rw (density-found, columns-found) is-best;
+          }
+
+      pub columns-behind : drop (pinsNeeded s) buffer' ≡ drop (pinsNeeded s) buffer
+      columns-behind =
+          ap (drop (pinsNeeded s)) columns-written
+          ∙ drop-at cs (drop (length cs) buffer) (pinsNeeded s) columns-count
+          ∙ ap (λ (k : ℕ). drop k buffer) columns-count
 
 -- and back: where the answer is a density, the sheet is sound, the buffers are long enough, and it is the best assignment's
 module _ (b : List ℕ) (k m d : ℕ) where
@@ -91,8 +108,8 @@ module _ (b : List ℕ) (k m d : ℕ) where
       by-best (record { reads = reads; pins = ltb-false _ _ e; cells = ltb-false _ _ f }) (best (sheetOf b)) refl q
 
   by-check : (r : Checked) → checkOf b ≡ r → answerIf r (sheetOf b) k m ≡ searched.Found d → Finds
-  unfolding answerIn read
-  by-check checked.Sound e q = by-room (ap (readAs (sheetOf b)) e) _ _ refl refl q
+  unfolding answerIn
+  by-check checked.Sound e q = by-room (sound-read b e) _ _ refl refl q
   by-check (checked.Refused why) e q = let z : _≡_ {A = ℕ} 0 1 = cc in absurd (omega arith)
 
   pub finds : searchedOf b k m ≡ searched.Found d → Finds

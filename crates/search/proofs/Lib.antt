@@ -12,4 +12,5 @@ pub mod Traced
 pub mod Solving
 pub mod Answers
 pub mod Found
+pub mod Returned
 pub mod TwoSearches

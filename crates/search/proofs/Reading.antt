@@ -1,10 +1,9 @@
--- Why the rules of a side, read terminal by terminal, are the side's, and leave the other side's alone.
+-- Why the rules of a side, read terminal by terminal, are the side's, and leave every other word alone.
 -- Assumes nothing.
 use Prim.Native.Nat.{ℕ, _+_, _-_, _*_, _≤_, _<_}
 use mathlib.Core.Path.{_≡_, refl, _∙_, ap}
 use mathlib.Core.List.{List}
 use mathlib.Core.Bool.{Bool, true, false}
-use mathlib.Core.Logic.{_⊎_, inl, inr}
 use native.Mathlib.Omega.{arith}
 use lib.ListN.{length, getD, set, length-set}
 use lib.Seq.{getD-set-same, getD-set-other}
@@ -14,13 +13,13 @@ use Rattle.channel.specs.Sheet.{Terminal}
 use Rattle.bits.specs.Bits.{bitOf}
 use Rattle.table.specs.Entry.{rangeAt, allowedAt}
 use Rattle.search.specs.Rules.{SideRules}
-use Rattle.search.specs.Sides.{TerminalRule, SideRead}
+use Rattle.search.specs.Sides.{TerminalRule, Other, SideRead}
 
--- the rules of the first i terminals are in, and the other side's are as they were
+-- the rules of the first i terminals are in, and every other word is as it was
 pub record RulesTo (side : ℕ) (ts : List Terminal) (i : ℕ) (old new : List ℕ) : Type 0 where
   pub kept : length new ≡ length old
   pub rules : (n : ℕ) → n < i → TerminalRule ts (n + 1) (getD new (128 * side + n) 0) (getD new (128 * side + 64 + n) 0)
-  pub others : (k : ℕ) → (k < 128 * side) ⊎ (128 * side + 128 ≤ k) → getD new k 0 ≡ getD old k 0
+  pub others : (k : ℕ) → Other side i k → getD new k 0 ≡ getD old k 0
 
 module _ (side : ℕ) (ts : List Terminal) (old : List ℕ) where
   -- no terminal yet
@@ -35,7 +34,7 @@ module _ (side : ℕ) (ts : List Terminal) (old : List ℕ) where
       record {
         kept = simp length-set (r .kept);
         rules = λ n l. by-test n l (eqb n i) refl;
-        others = λ k o. away k (λ e. apart k o (omega arith)) (λ e. apart k o (omega arith)) ∙ r .others k o;
+        others = λ k o. away k (o i (omega arith) .0) (o i (omega arith) .1) ∙ r .others k (λ n l. o n (omega arith));
       }
     where
       half : List ℕ
@@ -47,10 +46,6 @@ module _ (side : ℕ) (ts : List Terminal) (old : List ℕ) where
       -- a place that neither word is put into
       away : (k : ℕ) → (k ≡ 128 * side + i → ⊥) → (k ≡ 128 * side + 64 + i → ⊥) → getD new k 0 ≡ getD rules k 0
       away k f s = getD-set-other half (128 * side + 64 + i) k a 0 s ∙ getD-set-other rules (128 * side + i) k w 0 f
-
-      apart : (k : ℕ) → (k < 128 * side) ⊎ (128 * side + 128 ≤ k) → (128 * side ≤ k) × (k < 128 * side + 128) → ⊥
-      apart k (inl l) h = omega arith
-      apart k (inr l) h = omega arith
 
       range-word : getD new (128 * side + i) 0 ≡ w
       range-word =
@@ -80,7 +75,7 @@ module _ (side : ℕ) (ts : List Terminal) (old : List ℕ) where
               range = λ n e t p l h. at n p l .range e t h;
               allowed = λ n x p l. at n p l .allowed x;
             };
-        others = r .others;
+        others = λ k o. r .others k (λ n l. o n (omega arith));
       }
     where
       at : (n : ℕ) → 1 ≤ n → n ≤ length ts → TerminalRule ts n (rangeAt new side n) (allowedAt new side n)
@@ -96,8 +91,8 @@ rules-kept a b ts us old new h few r later =
     record {
       range =
           λ i e t p l k.
-          ap (λ (w : ℕ). bitOf w e) (later .others (128 * a + (i - 1)) (inl (omega arith))) ∙ r .range i e t p l k;
+          ap (λ (w : ℕ). bitOf w e) (later .others (128 * a + (i - 1)) (λ n m. (λ q. omega arith, λ q. omega arith))) ∙ r .range i e t p l k;
       allowed =
           λ i x p l.
-          ap (λ (w : ℕ). bitOf w x) (later .others (128 * a + 64 + (i - 1)) (inl (omega arith))) ∙ r .allowed i x p l;
+          ap (λ (w : ℕ). bitOf w x) (later .others (128 * a + 64 + (i - 1)) (λ n m. (λ q. omega arith, λ q. omega arith))) ∙ r .allowed i x p l;
     }

@@ -7,7 +7,7 @@ use mathlib.Core.Bool.{Bool, true, false, cond}
 use mathlib.Core.Logic.{_⊎_, inl, inr, ⊎-elim}
 use native.Mathlib.Omega.{arith}
 use native.Mathlib.Nat.{add-zero, mul-assoc, mul-le-mul, mul-le-mul-right}
-use lib.ListN.{length, drop, getD, length-map}
+use lib.ListN.{length, drop, getD, replicate, length-map}
 use lib.Dec.{eqb}
 use borrow.Author.Tests.{eqb-false}
 use Rattle.channel.specs.Sheet.{Sheet, Sound}
@@ -17,9 +17,8 @@ use Rattle.channel.specs.Word.{columnsOf}
 use Rattle.channel.specs.Word.Letter.{top, bottom, both}
 use Rattle.sheet.specs.declared.Shape.{Shape}
 use Rattle.sheet.specs.Parts.{terminalsIn}
-use Rattle.sheet.proofs.Sections.{length-terminals}
-use Rattle.load.specs.Cuts.{AllLoads, netsIn}
-use Rattle.load.proofs.LoadOf.{load-of}
+use Rattle.load.specs.Cuts.{Cell, AllLoads, netsIn}
+use Rattle.load.proofs.LoadOf.{load-of, cell-top, cell-bottom, cell-both}
 use Rattle.table.specs.Room.{Measures}
 use Rattle.reach.specs.Reach.{feasible}
 use Rattle.reach.specs.Greedy.{trace}
@@ -30,10 +29,10 @@ use Rattle.search.specs.declared.pass.Plan.{Plan}
 use Rattle.search.specs.declared.pass.Outcome.{Outcome}
 use Rattle.search.specs.declared.pass.Outcome.the-variants as outcome
 use Rattle.search.specs.Rules.{SideRules, SheetLoads}
-use Rattle.search.specs.Pass.{Given, placeable, Rising, Least, Came, Placed, tableEnd}
+use Rattle.search.specs.Pass.{Given, placeable, Rising, Least, Placed, tableEnd}
 use Rattle.search.specs.Ready.{Ready}
-use Rattle.search.specs.Answer.{withColumns}
-use Rattle.search.specs.Solved.{sheetIn, planOf, Asked, outcomeOf, Solved}
+use Rattle.search.specs.Answer.{withColumns, cleared}
+use Rattle.search.specs.Solved.{sheetIn, planOf, Asked, outcomeOf, Worked, Solved}
 use Rattle.search.specs.Walking.{Lies}
 use Rattle.search.proofs.Feasible.{placeable-feasible, placeable-rising}
 use Rattle.search.proofs.Traced.{walked-trace}
@@ -46,14 +45,14 @@ loads-sheet l tops bottoms old new a =
       top =
           λ i j h hi hj.
           ap (λ (k : ℕ). getD new k 0) (add-zero (3 * (65 * i + j)))
-          ∙ a .cell i j (rw length-map hi) (rw length-map hj) .top h
+          ∙ cell-top (cut i j hi hj) h
           ∙ sym (load-of (sheetIn l tops bottoms) top i j);
-      bottom =
-          λ i j hi h hj. a .cell i j (rw length-map hi) (rw length-map hj) .bottom h ∙ sym (load-of (sheetIn l tops bottoms) bottom i j);
-      both =
-          λ i j h hi g hj.
-          a .cell i j (rw length-map hi) (rw length-map hj) .both h g ∙ sym (load-of (sheetIn l tops bottoms) both i j);
+      bottom = λ i j hi h hj. cell-bottom (cut i j hi hj) h ∙ sym (load-of (sheetIn l tops bottoms) bottom i j);
+      both = λ i j h hi g hj. cell-both (cut i j hi hj) h g ∙ sym (load-of (sheetIn l tops bottoms) both i j);
     }
+  where
+    cut : (i j : ℕ) → i ≤ length (terminalsIn tops) → j ≤ length (terminalsIn bottoms) → Cell (netsIn tops) (netsIn bottoms) new i j
+    cut i j hi hj = a .cell i j (rw length-map hi) (rw length-map hj)
 
 -- the table's measures: four cells for each row fit a plane
 four-rows : (l : ℕ) → 1 ≤ l → 4 * l ≤ (l + 1) * (l + 1)
@@ -117,17 +116,11 @@ module _ (tops bottoms : List ℕ) (n : Shape) (c w : ℕ) (asked : Asked tops b
   pub cell-count : n .cells ≡ (n .top + 1) * (n .bottom + 1) * ((n .columns + 1) * (n .columns + 1))
   cell-count = ap (λ (k : Shape). k .cells) (asked .numbers) ∙ rw (← top-count, ← bottom-count)
 
-  pub section-counts : (length tops / 12 ≤ 64) × (length bottoms / 12 ≤ 64)
-  section-counts = (
-    rw (← length-terminals tops 0 (length tops / 12)) (asked .sound .counts .0),
-    rw (← length-terminals bottoms 0 (length bottoms / 12)) (asked .sound .counts .1),
-  )
-
   -- more pins on a side than columns
-  pub crowded-solved :
+  pub crowded-worked :
       (columns work : List ℕ) → (n .columns < n .top) ⊎ (n .columns < n .bottom)
-      → Solved tops bottoms n columns columns work work outcome.Nothing
-  crowded-solved columns work h =
+      → Worked tops bottoms n columns columns work work outcome.Nothing
+  crowded-worked columns work h =
       let e : best (sheetIn (n .columns) tops bottoms) ≡ none
       = crowded (sheetIn (n .columns) tops bottoms) (asked .sound)
       (⊎-elim (λ x. inl (omega (arith, top-count))) (λ x. inr (omega (arith, bottom-count))) h) in
@@ -156,20 +149,22 @@ module _ (tops bottoms : List ℕ) (n : Shape) (c w : ℕ) (asked : Asked tops b
 
 -- what the passes come to is the best assignment
 pub came-best :
-    (s : Sheet) (rules loads : List ℕ) (n : Plan) → Ready s rules loads n → (new columns columns' : List ℕ)
-    → n .p + n .q ≤ length columns → (r : Outcome) → Came rules loads n new columns columns' r
+    (s : Sheet) (rules loads : List ℕ) (n : Plan) → Ready s rules loads n → (old new columns columns' : List ℕ)
+    → n .p + n .q ≤ length columns → (r : Outcome) → Placed rules loads n old new columns columns' r
     → (r ≡ outcomeOf (best s)) × (columns' ≡ withColumns (best s) columns)
-came-best s rules loads n ready new columns columns' room (outcome.Least d) (least, filled, written) =
+came-best s rules loads n ready old new columns columns' room (outcome.Least d) placed =
+    let (least, written) = placed .came in
     let can : feasible s d ≡ true = sym (placeable-feasible s rules loads n ready d) ∙ least .holds in
     let e : best s ≡ found d (columnsOf (trace s d))
     = search-best s (ready .sound) d can (λ k l. sym (placeable-feasible s rules loads n ready k) ∙ least .smaller k l) in
     let size : length (columnsOf (trace s d)) ≡ n .p + n .q = omega (arith, trace-pins s d can .3, ready .p, ready .q) in (
       rw e,
       written
-          ∙ walked-trace s rules loads n ready d can new new _ filled columns room
+          ∙ walked-trace s rules loads n ready d can new old _ (placed .table) columns room
           ∙ rw e (ap (λ (k : ℕ). columnsOf (trace s d) ++ drop k columns) (sym size)),
     )
-came-best s rules loads n ready new columns columns' room outcome.Nothing (never, same) =
+came-best s rules loads n ready old new columns columns' room outcome.Nothing placed =
+    let (never, same) = placed .came in
     let e : best s ≡ none = search-none s (ready .sound) (sym (placeable-feasible s rules loads n ready 128) ∙ never) in
     (rw e, rw e same)
 
@@ -201,18 +196,30 @@ module _ (tops bottoms : List ℕ) (n : Shape) (columns work : List ℕ)
     )
 
     -- and what they come to
-    pub placed-solved :
+    pub placed-worked :
         (columns' work' : List ℕ) (r : Outcome) → Placed rules loads plan work work' columns columns' r
-        → Solved tops bottoms n columns columns' work work' r
-    placed-solved columns' work' r placed =
+        → Worked tops bottoms n columns columns' work work' r
+    placed-worked columns' work' r placed =
         let room : plan .p + plan .q ≤ length columns
         = rw planned (omega (arith, asked .pins, pin-count tops bottoms n (length columns) (length work) asked)) in
-        let (o, w) = came-best (sheetIn (n .columns) tops bottoms) rules loads plan plan-ready work' columns columns' room r (placed .came) in
+        let (o, w) = came-best (sheetIn (n .columns) tops bottoms) rules loads plan plan-ready work work' columns columns' room r placed in
         let end : tableEnd plan ≡ n .cells
         = rw planned
         (sym (mul-assoc (n .top + 1) (n .bottom + 1) ((n .columns + 1) * (n .columns + 1)))
         ∙ sym (cell-count tops bottoms n (length columns) (length work) asked)) in
-        record { outcome = o; written = w; kept = placed .kept; behind = subst (λ (k : ℕ). drop k work' ≡ drop k work) end (placed .behind) }
+        record { outcome = o; written = w; kept = placed .table .kept; behind = subst (λ (k : ℕ). drop k work' ≡ drop k work) end (placed .table .behind) }
+
+-- the cells that were worked in, cleared
+pub worked-solved :
+    (tops bottoms : List ℕ) (n : Shape) (columns columns' work mid work' : List ℕ) (r : Outcome)
+    → Worked tops bottoms n columns columns' work mid r → work' ≡ cleared (n .cells) mid
+    → Solved tops bottoms n columns columns' work work' r
+worked-solved tops bottoms n columns columns' work mid work' r worked clears =
+    record {
+      outcome = worked .outcome;
+      written = worked .written;
+      cells = clears ∙ ap (λ (rest : List ℕ). replicate (n .cells) 0 ++ rest) (worked .behind);
+    }
 
 -- the sizes of the table are small
 pub plane-small : (l : ℕ) → l ≤ 64 → (l + 1) * (l + 1) ≤ 65 * 65

@@ -18,7 +18,7 @@ use Rattle.sheet.specs.declared.Entry.{Entry}
 use Rattle.sheet.specs.declared.Entry.the-variants.{Terminal as Found, Nothing}
 use Rattle.sheet.specs.Format.{recordOf}
 use Rattle.sheet.specs.Parts.{nth, terminalsIn, entryIn}
-use Rattle.sheet.proofs.Sections.{entry-found, entry-at}
+use Rattle.sheet.proofs.Laws.{entry-at, entry-in, entry-there}
 use Rattle.reach.specs.Reach.{noTerminal, terminalOf}
 use Rattle.bits.specs.Bits.{bitOf}
 use Rattle.bits.proofs.Laws.{bit-zero, bit-shr, bit-full}
@@ -93,19 +93,16 @@ nth-found (t ∷ ts) (suc k) r e = nth-found ts k r e
 -- what is found at a place of a section
 module _ (part : List ℕ) (place : ℕ) (found : Entry) (answer : found ≡ entryIn part place) where
   -- it is a record where the section has the place
-  pub not-nothing : 1 ≤ place → place ≤ length part / 12 → found ≡ Nothing → ⊥
-  not-nothing p l e =
-      let z : _≡_ {A = ℕ} 0 1 = cc (entry-found part place (omega arith) (omega arith)) in
-      omega arith
+  pub not-nothing : 1 ≤ place → place ≤ length (terminalsIn part) → found ≡ Nothing → ⊥
+  not-nothing p l e = entry-there part place p l (sym answer ∙ e)
 
   module _ (r : Record) (p : 1 ≤ place) (e : found ≡ Found r) where
     -- the record is the terminal's
     here : recordOf (terminalOf (terminalsIn part) place) ≡ r
-    unfolding entryIn
     here =
         let ts : List Terminal = terminalsIn part in
         ap (λ (k : ℕ). recordOf (getD ts k noTerminal)) (omega arith)
-        ∙ nth-found ts (place - 1) r (sym (entry-at ts place (omega arith)) ∙ sym answer ∙ e)
+        ∙ nth-found ts (place - 1) r (sym (entry-at ts place (omega arith)) ∙ sym (entry-in part place) ∙ sym answer ∙ e)
 
     -- and so is its set, shifted down
     allowed-word :

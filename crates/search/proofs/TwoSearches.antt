@@ -4,6 +4,7 @@ use Prim.Native.Nat.{ℕ}
 use mathlib.Core.Path.{_≡_, refl, sym, _∙_, subst}
 use mathlib.Core.List.{List}
 use mathlib.Core.Bool.{true, true≢false}
+use native.Mathlib.Omega.{arith}
 use lib.ListN.{length}
 use Rattle.channel.specs.Sheet.{Sheet, Sound}
 use Rattle.channel.specs.Assignment.{assignment?}
@@ -12,27 +13,29 @@ use Rattle.channel.specs.Best.Found.{none, found}
 use Rattle.channel.specs.Pairs.{LeastKept}
 use Rattle.channel.proofs.Best.{best-answers}
 use Rattle.channel.proofs.Pairs.{least-kept}
-use Rattle.sheet.proofs.Sounds.{read-sound}
+use Rattle.sheet.proofs.Laws.{read-sound}
 use Rattle.search.specs.declared.Searched.{Searched}
-use Rattle.search.specs.Answer.{Searches}
-use Rattle.search.specs.Pair.{Kept, LongEnough}
-use Rattle.search.proofs.Found.{gave}
+use Rattle.search.specs.Answer.{numberOf, densityOf, Searches}
+use Rattle.search.specs.Returned.{LongEnough}
+use Rattle.search.specs.Pair.{Kept}
+use Rattle.search.proofs.Found.{density-found, gives}
 
 -- demand 3
 pub two-searches :
     (a b c u c' u' d v d' v' : List ℕ) (r r' : Searched) → Searches a c u c' u' r → Searches b d v d' v' r' → (s t : Sheet)
-    → LongEnough a s (length c) (length u) → LongEnough b t (length d) (length v) → Kept s t r r' c' d'
+    → LongEnough a s (length c) (length u) → LongEnough b t (length d) (length v)
+    → Kept s t (numberOf r) (densityOf r) (numberOf r') (densityOf r') c' d'
 two-searches a b c u c' u' d v d' v' r r' one two s t long long' =
     record {
       loosened =
           λ h es ok.
           let (m, ms, e) = some-best (best s) refl es ok in
           let (n, ns, e', le) = kept .loosened h m ms e in
-          (m, n, gave a c u c' u' r one s long m ms e, gave b d v d' v' r' two t long' n ns e', le);
+          (gives one long e, gives two long' e', omega (arith, le, density-found one long e, density-found two long' e'));
       lengthened =
           λ h.
           let (m, ms, ns, e, e') = kept .lengthened h in
-          (m, gave a c u c' u' r one s long m ms e, gave b d v d' v' r' two t long' m ns e');
+          (gives one long e, gives two long' e', density-found two long' e' ∙ sym (density-found one long e));
     }
   where
     hs : Sound s

@@ -6,4 +6,5 @@ pub mod Pass
 pub mod Ready
 pub mod Answer
 pub mod Solved
+pub mod Returned
 pub mod Pair

@@ -8,7 +8,7 @@ use lib.ListN.{length, drop}
 use lib.Dec.{ltb}
 use Rattle.bits.specs.Bits.{some, inWord}
 use Rattle.table.specs.Entry.{cell}
-use Rattle.table.specs.Room.{Sides, Filled}
+use Rattle.table.specs.Room.{Sides, SameGaps, Filled}
 use Rattle.search.specs.declared.pass.Plan.{Plan}
 use Rattle.search.specs.declared.pass.Outcome.{Outcome}
 use Rattle.search.specs.declared.pass.Outcome.the-variants as outcome
@@ -46,23 +46,28 @@ pub record Tried (rules loads : List ℕ) (n : Plan) (bound : ℕ) (old new : Li
   pub answer : r ≡ placeable rules loads n bound
   pub table : Filled rules loads bound (n .grid) (n .p + 1) 0 (tableEnd n) old new
 
--- after the passes: r is the least bound
+-- after the passes: r is the least bound, and all but the table's rows is as it was
 pub record Bounded (rules loads : List ℕ) (n : Plan) (old new : List ℕ) (r : ℕ) : Type 0 where
   pub least : Least (placeable rules loads n) r
   pub small : r ≤ 128
   pub kept : length new ≡ length old
   pub behind : drop (tableEnd n) new ≡ drop (tableEnd n) old
+  pub gaps : SameGaps (n .grid) old new
 
 -- the least bound with the columns of its walk, or nothing and the columns as they were
 abbrev pub Came : List ℕ → List ℕ → Plan → List ℕ → List ℕ → List ℕ → Outcome → Type 0
 Came rules loads n new columns columns' (outcome.Least d) =
     Least (placeable rules loads n) d
-    × Filled rules loads d (n .grid) (n .p + 1) 0 (tableEnd n) new new
     × (columns'
     ≡ walked new rules (n .grid) (n .p) (n .q) (n .l) (record { c = n .l; i = n .p; j = n .q; top = 0; bottom = 0 }) columns)
 Came rules loads n new columns columns' outcome.Nothing = (placeable rules loads n 128 ≡ false) × (columns' ≡ columns)
 
+-- the bound of the last pass: the least one, or 128, which no load is above
+abbrev pub lastBound : Outcome → ℕ
+lastBound (outcome.Least d) = d
+lastBound outcome.Nothing = 128
+
+-- and the table of the last pass
 pub record Placed (rules loads : List ℕ) (n : Plan) (old new columns columns' : List ℕ) (r : Outcome) : Type 0 where
   pub came : Came rules loads n new columns columns' r
-  pub kept : length new ≡ length old
-  pub behind : drop (tableEnd n) new ≡ drop (tableEnd n) old
+  pub table : Filled rules loads (lastBound r) (n .grid) (n .p + 1) 0 (tableEnd n) old new

@@ -14,7 +14,7 @@ use Rattle.sheet.specs.Parts.{terminalsIn, shape}
 use Rattle.search.specs.declared.pass.Plan.{Plan}
 use Rattle.search.specs.declared.pass.Outcome.{Outcome}
 use Rattle.search.specs.declared.pass.Outcome.the-variants as outcome
-use Rattle.search.specs.Answer.{withColumns}
+use Rattle.search.specs.Answer.{withColumns, cleared}
 
 -- the sheet of two sections
 abbrev pub sheetIn : ℕ → List ℕ → List ℕ → Sheet
@@ -47,9 +47,15 @@ abbrev pub outcomeOf : Found → Outcome
 outcomeOf none = outcome.Nothing
 outcomeOf (found d cs) = outcome.Least d
 
--- the best assignment is written, if there is one; what stands behind the cells needed is as it was
-pub record Solved (top bottom : List ℕ) (n : Shape) (columns columns' work work' : List ℕ) (r : Outcome) : Type 0 where
+-- the best assignment is written, if there is one, and only the cells needed are worked in: what stands behind them is as it was
+pub record Worked (top bottom : List ℕ) (n : Shape) (columns columns' work work' : List ℕ) (r : Outcome) : Type 0 where
   pub outcome : r ≡ outcomeOf (best (sheetIn (n .columns) top bottom))
   pub written : columns' ≡ withColumns (best (sheetIn (n .columns) top bottom)) columns
   pub kept : length work' ≡ length work
   pub behind : drop (n .cells) work' ≡ drop (n .cells) work
+
+-- the same, with the cells needed left 0
+pub record Solved (top bottom : List ℕ) (n : Shape) (columns columns' work work' : List ℕ) (r : Outcome) : Type 0 where
+  pub outcome : r ≡ outcomeOf (best (sheetIn (n .columns) top bottom))
+  pub written : columns' ≡ withColumns (best (sheetIn (n .columns) top bottom)) columns
+  pub cells : work' ≡ cleared (n .cells) work

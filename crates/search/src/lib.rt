@@ -8,9 +8,11 @@ mod walk;
 pub use answer::density_of;
 pub use answer::number_of;
 use pass::Outcome;
-use sheet::Checked;
+use sheet::Layout;
+use sheet::Opened;
 use sheet::Refusal;
-use sheet::Side;
+ghost use mathlib.Core.Path.{_≡_};
+ghost use Rattle.sheet.specs.Parts.{openedOf};
 ghost use Rattle.search.specs.Answer.{Searches};
 ghost use Rattle.search.specs.Pair.{SearchesBoth};
 
@@ -33,21 +35,28 @@ pub struct Both {
 pub fn search(s: &[u8], columns: &mut [u8], work: &mut [u16]) -> Searched
     ensures { λ r. ⌜ Searches (now (s .entry)) (now (columns .entry)) (now (work .entry)) (now (columns .exit)) (now (work .exit)) r ⌝ }
 {
-    let checked = sheet::check(s);
-    if let Checked::Refused(why) = checked {
-        return Searched::Sheet(why);
+    let opened = sheet::open(s);
+    match opened {
+        Opened::Sound(layout) => search_layout(s, layout, columns, work),
+        Opened::Refused(why) => Searched::Sheet(why),
     }
-    let shape = sheet::sound_shape(s);
+}
+
+// The same of a sheet that opened with this layout.
+fn search_layout(s: &[u8], layout: Layout, columns: &mut [u8], work: &mut [u16]) -> Searched
+    requires { ⌜ openedOf (now s) ≡ Opened.Sound layout ⌝ }
+    ensures { λ r. ⌜ Searches (now (s .entry)) (now (columns .entry)) (now (work .entry)) (now (columns .exit)) (now (work .exit)) r ⌝ }
+{
+    let shape = layout.shape;
     if columns.len() < shape.pins {
         return Searched::Columns;
     }
     if work.len() < shape.cells {
         return Searched::Cells;
     }
-    let top = sheet::sound_section(s, Side::Top);
-    let bottom = sheet::sound_section(s, Side::Bottom);
+    let top = sheet::part_in(s, layout.top);
+    let bottom = sheet::part_in(s, layout.bottom);
     let outcome = solve::solve(top, bottom, shape, columns, work);
-    pass::clear(work, shape.cells);
     match outcome {
         Outcome::Least(d) => Searched::Found(d),
         Outcome::Nothing => Searched::NoAssignment,

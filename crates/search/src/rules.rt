@@ -3,9 +3,10 @@
 use bits::either;
 use bits::single;
 use sheet::Entry;
+use sheet::count_in;
 use sheet::in_range;
 use sheet::record_in;
-ghost use Prim.Native.Nat.{ℕ, _+_, _/_, _≤_, _<_};
+ghost use Prim.Native.Nat.{ℕ, _+_, _≤_, _<_};
 ghost use mathlib.Core.Path.{_≡_};
 ghost use lib.ListN.{length};
 ghost use Rattle.channel.specs.Assignment.{inRange};
@@ -37,7 +38,7 @@ fn distances(least: u8, greatest: u8) -> u64
 
 // The rule of the terminal at a place, from 1, of a section. The first is tied to no terminal before it.
 fn rule_of(part: &[u8], place: usize) -> Rule
-    requires { ⌜ (1 ≤ place) × (place ≤ length (now part) / 12) × (place ≤ 64) ⌝ }
+    requires { ⌜ (1 ≤ place) × (place ≤ length (terminalsIn (now part))) × (place ≤ 64) ⌝ }
     ensures { λ r. ⌜ TerminalRule (terminalsIn (now (part .entry))) place (r .range) (r .allowed) ⌝ }
 {
     let entry = record_in(part, place);
@@ -63,10 +64,10 @@ fn rule_of(part: &[u8], place: usize) -> Rule
 
 // The rules of one side, 0 top and 1 bottom, from its section.
 pub fn read_rules(part: &[u8], rules: &mut [u64], side: usize)
-    requires { ⌜ (length (now rules) ≡ 256) × (side ≤ 1) × (length (now part) / 12 ≤ 64) ⌝ }
+    requires { ⌜ (length (now rules) ≡ 256) × (side ≤ 1) × (length (terminalsIn (now part)) ≤ 64) ⌝ }
     ensures { λ _. ⌜ SideRead side (terminalsIn (now (part .entry))) (now (rules .entry)) (now (rules .exit)) ⌝ }
 {
-    let count = part.len() / 12;
+    let count = count_in(part);
     let base = 128 * side;
     let mut i = 0;
     while i < count {

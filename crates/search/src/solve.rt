@@ -1,6 +1,7 @@
 // The search over the two sections of a sound sheet.
 use crate::pass::Outcome;
 use crate::pass::Plan;
+use crate::pass::clear;
 use crate::pass::place;
 use crate::rules::read_rules;
 use sheet::Shape;
@@ -10,7 +11,7 @@ ghost use mathlib.Core.Path.{_≡_};
 ghost use mathlib.Core.Bool.{cond};
 ghost use lib.ListN.{length};
 ghost use lib.Dec.{eqb};
-ghost use Rattle.search.specs.Solved.{planOf, Asked, Solved};
+ghost use Rattle.search.specs.Solved.{planOf, Asked, Worked, Solved};
 
 // The rows of a plane: the columns in which a top pin can stand.
 fn rows_of(l: usize, p: usize) -> usize
@@ -38,16 +39,10 @@ fn make_plan(l: usize, p: usize, q: usize) -> Plan
     Plan { grid, p, q, l }
 }
 
-// Writes the columns of the best assignment, if there is one.
-pub fn solve(
-    top: &[u8],
-    bottom: &[u8],
-    shape: Shape,
-    columns: &mut [u8],
-    work: &mut [u16],
-) -> Outcome
+// Writes the columns of the best assignment, if there is one. What it leaves in the cells that it works in is for `solve` to clear.
+fn find(top: &[u8], bottom: &[u8], shape: Shape, columns: &mut [u8], work: &mut [u16]) -> Outcome
     requires { ⌜ Asked (now top) (now bottom) shape (length (now columns)) (length (now work)) ⌝ }
-    ensures { λ r. ⌜ Solved (now (top .entry)) (now (bottom .entry)) shape (now (columns .entry)) (now (columns .exit)) (now (work .entry)) (now (work .exit)) r ⌝ }
+    ensures { λ r. ⌜ Worked (now (top .entry)) (now (bottom .entry)) shape (now (columns .entry)) (now (columns .exit)) (now (work .entry)) (now (work .exit)) r ⌝ }
 {
     let l = shape.columns;
     let p = shape.top;
@@ -65,4 +60,20 @@ pub fn solve(
     let mut loads = [0u8; 12675];
     load::read_loads(top, bottom, &mut loads);
     place(work, &rules, &loads, plan, columns)
+}
+
+// Writes the columns of the best assignment, if there is one, and leaves the cells that this takes 0.
+pub fn solve(
+    top: &[u8],
+    bottom: &[u8],
+    shape: Shape,
+    columns: &mut [u8],
+    work: &mut [u16],
+) -> Outcome
+    requires { ⌜ Asked (now top) (now bottom) shape (length (now columns)) (length (now work)) ⌝ }
+    ensures { λ r. ⌜ Solved (now (top .entry)) (now (bottom .entry)) shape (now (columns .entry)) (now (columns .exit)) (now (work .entry)) (now (work .exit)) r ⌝ }
+{
+    let outcome = find(top, bottom, shape, columns, work);
+    clear(work, shape.cells);
+    outcome
 }

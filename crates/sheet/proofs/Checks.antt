@@ -14,7 +14,7 @@ use Rattle.sheet.specs.declared.Refusal.{Refusal}
 use Rattle.sheet.specs.declared.Refusal.the-variants.{Short, Mark, Length, Count, Layout}
 use Rattle.sheet.specs.declared.Side.{Side}
 use Rattle.sheet.specs.declared.Side.the-variants.{Top, Bottom}
-use Rattle.sheet.specs.declared.format.Part.{Part}
+use Rattle.sheet.specs.declared.Part.{Part}
 use Rattle.sheet.specs.declared.format.Trailer.{Trailer}
 use Rattle.sheet.specs.Format.{terminalAt, terminalsFrom, trailerOf, partOf, hasMark, CP}
 use Rattle.sheet.specs.Check.{refuse, _orElse_, follows, laidOut, trailerCheck, formOf, terminalCheck, sideCheck, terminalsOf, checkOf}

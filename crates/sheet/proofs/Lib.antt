@@ -1,5 +1,6 @@
-pub mod Fields
-pub mod Checks
-pub mod Sections
-pub mod Sounds
-pub mod Visits
+mod Fields
+mod Checks
+mod Sections
+mod Sounds
+mod Visits
+pub mod Laws

@@ -11,12 +11,14 @@ use Rattle.channel.specs.Sheet as channel
 use Rattle.channel.specs.Sheet.{Terminal, Sheet, SoundTerminal, SoundFrom, distances?}
 use Rattle.sheet.specs.declared.Checked.{Checked}
 use Rattle.sheet.specs.declared.Checked.the-variants.{Sound, Refused}
+use Rattle.sheet.specs.declared.Refusal.{Refusal}
 use Rattle.sheet.specs.declared.Refusal.the-variants.{Net, Distance, Beyond}
 use Rattle.sheet.specs.declared.Side.the-variants.{Top, Bottom}
 use Rattle.sheet.specs.Format.{trailerOf}
 use Rattle.sheet.specs.Check.{refuse, terminalCheck, sideCheck, terminalsOf, checkOf}
 use Rattle.sheet.specs.Read.{readAs, sheetOf, read}
-use Rattle.sheet.specs.Read.Read.{sound}
+use Rattle.sheet.specs.Read.Read.{sound, refused}
+use Rattle.sheet.specs.Refusals.{numberOf}
 use Rattle.sheet.proofs.Checks.{orElse-sound, refuse-sound, whole}
 use Rattle.sheet.proofs.Sections.{length-terminals}
 
@@ -61,6 +63,16 @@ read-checked b s h = by-check (checkOf b) refl h
     by-check : (r : Checked) → checkOf b ≡ r → readAs (sheetOf b) r ≡ sound s → (checkOf b ≡ Sound) × (s ≡ sheetOf b)
     by-check Sound e h = (e, cc)
     by-check (Refused why) e h = let z : _≡_ {A = ℕ} 0 1 = cc in absurd (omega arith)
+
+-- and refuses the others, with the number of its refusal
+pub read-refused : (b : List ℕ) (n : ℕ) → read b ≡ refused n → (why : Refusal) × (checkOf b ≡ Refused why) × (numberOf why ≡ n)
+unfolding read
+read-refused b n h = by-check (checkOf b) refl h
+  where
+    by-check :
+        (r : Checked) → checkOf b ≡ r → readAs (sheetOf b) r ≡ refused n → (why : Refusal) × (checkOf b ≡ Refused why) × (numberOf why ≡ n)
+    by-check Sound e h = let z : _≡_ {A = ℕ} 0 1 = cc in absurd (omega arith)
+    by-check (Refused why) e h = (why, e, cc)
 
 pub read-sound : (b : List ℕ) (s : Sheet) → read b ≡ sound s → channel.Sound s
 read-sound b s h =

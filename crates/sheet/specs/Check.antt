@@ -10,7 +10,7 @@ use Rattle.sheet.specs.declared.Checked.{Checked}
 use Rattle.sheet.specs.declared.Checked.the-variants.{Sound, Refused}
 use Rattle.sheet.specs.declared.Refusal.{Refusal}
 use Rattle.sheet.specs.declared.Refusal.the-variants.{Short, Mark, Length, Count, Layout, Net, Distance, Beyond}
-use Rattle.sheet.specs.declared.format.Part.{Part}
+use Rattle.sheet.specs.declared.Part.{Part}
 use Rattle.sheet.specs.declared.format.Trailer.{Trailer}
 use Rattle.sheet.specs.Format.{recordSize, trailerSize, hasMark, CP, trailerOf, terminalsFrom}
 

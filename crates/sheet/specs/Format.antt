@@ -9,7 +9,7 @@ use Rattle.channel.specs.Sheet.{Terminal}
 use Rattle.sheet.specs.declared.Record.{Record}
 use Rattle.sheet.specs.declared.Side.{Side}
 use Rattle.sheet.specs.declared.Side.the-variants.{Top, Bottom}
-use Rattle.sheet.specs.declared.format.Part.{Part}
+use Rattle.sheet.specs.declared.Part.{Part}
 use Rattle.sheet.specs.declared.format.Trailer.{Trailer}
 
 -- "Little-endian": the number in the n bytes from i on
@@ -52,9 +52,13 @@ trailerAt b i =
 unfoldable pub trailerOf : List ℕ → Trailer
 trailerOf b = trailerAt b (length b - trailerSize)
 
+-- of two parts, that of a side
+abbrev pub ofSide : Part → Part → Side → Part
+ofSide top bottom Top = top
+ofSide top bottom Bottom = bottom
+
 abbrev pub partOf : Trailer → Side → Part
-partOf t Top = t .top
-partOf t Bottom = t .bottom
+partOf t side = ofSide (t .top) (t .bottom) side
 
 -- "the last two bytes must be the letters": they are those of the mark
 unfoldable pub hasMark : List ℕ → List ℕ → Bool

@@ -1,18 +1,24 @@
 -- The parts of a sheet's bytes: its shape, one side's section, one terminal's record (document 01, "The sheet").
 -- Assumes nothing.
-use Prim.Native.Nat.{ℕ, zero, suc, _+_, _*_, _/_}
+use Prim.Native.Nat.{ℕ, zero, suc, _+_, _*_, _/_, min}
+use mathlib.Core.Path.{_≡_}
 use mathlib.Core.List.{List, [], _∷_}
 use lib.ListN.{length, take, drop}
+use denote.Ref.{RefT, now}
 use Rattle.channel.specs.Sheet.{Terminal, terminals}
 use Rattle.channel.specs.Sheet as channel
 use Rattle.sheet.specs.declared.Checked.{Checked}
 use Rattle.sheet.specs.declared.Checked.the-variants.{Sound, Refused}
 use Rattle.sheet.specs.declared.Entry.{Entry}
 use Rattle.sheet.specs.declared.Entry.the-variants.{Terminal as Found, Nothing}
+use Rattle.sheet.specs.declared.Layout.{Layout}
+use Rattle.sheet.specs.declared.Opened.{Opened}
+use Rattle.sheet.specs.declared.Opened.the-variants.{Sound as Laid, Refused as Unsound}
 use Rattle.sheet.specs.declared.Shape.{Shape}
 use Rattle.sheet.specs.declared.Side.{Side}
 use Rattle.sheet.specs.declared.Side.the-variants.{Top, Bottom}
-use Rattle.sheet.specs.declared.format.Part.{Part}
+use Rattle.sheet.specs.declared.Part.{Part}
+use Rattle.sheet.specs.declared.format.Trailer.{Trailer}
 use Rattle.sheet.specs.Format.{recordSize, recordOf, terminalsFrom, trailerOf, partOf}
 use Rattle.sheet.specs.Check.{checkOf}
 use Rattle.sheet.specs.Read.{Read, read}
@@ -42,16 +48,47 @@ shapeAs (refused n) = noShape
 unfoldable pub shapeOf : List ℕ → Shape
 shapeOf b = shapeAs (read b)
 
--- "that section of its own sheet. A refused sheet gives the empty part; so does a side with no terminals"
-abbrev pub bytesOf : List ℕ → Part → List ℕ
+-- a sound sheet's shape, and where the trailer says that its sections stand
+unfoldable pub layoutOf : List ℕ → Layout
+layoutOf b =
+    let t : Trailer = trailerOf b in
+    record { shape = shape (t .columns) (t .top .count) (t .bottom .count); top = t .top; bottom = t .bottom }
+
+-- the sheet check's answer, with the layout of a sound sheet
+abbrev pub openedAs : List ℕ → Checked → Opened
+openedAs b Sound = Laid (layoutOf b)
+openedAs b (Refused why) = Unsound why
+
+unfoldable pub openedOf : List ℕ → Opened
+openedOf b = openedAs b (checkOf b)
+
+-- the caller's own slice from an offset on, and not a copy: the part starts in the same memory, so many bytes further
+pub record OwnPart (whole part : RefT (List ℕ)) (offset : ℕ) (contents : List ℕ) : Type 0 where
+  pub place : part .ptr ≡ (whole .ptr .0, whole .ptr .1 + offset)
+  pub bytes : now part ≡ contents
+
+-- the bytes of a part, as far as they lie in b; a part that would start behind the end is the empty one at the end
+unfoldable pub bytesOf : List ℕ → Part → List ℕ
 bytesOf b part = take (recordSize * part .count) (drop (part .at) b)
 
+abbrev pub offsetOf : List ℕ → Part → ℕ
+offsetOf b part = min (part .at) (length b)
+
+-- "that section of its own sheet. A refused sheet gives the empty part; so does a side with no terminals"
 abbrev pub sectionAs : List ℕ → Side → Checked → List ℕ
 sectionAs b side Sound = bytesOf b (partOf (trailerOf b) side)
 sectionAs b side (Refused why) = []
 
 unfoldable pub sectionOf : List ℕ → Side → List ℕ
 sectionOf b side = sectionAs b side (checkOf b)
+
+-- where it starts: "located through the trailer's offsets"; the empty part of a refused sheet stands at its start
+abbrev pub sectionAtAs : List ℕ → Side → Checked → ℕ
+sectionAtAs b side Sound = partOf (trailerOf b) side .at
+sectionAtAs b side (Refused why) = 0
+
+unfoldable pub sectionAt : List ℕ → Side → ℕ
+sectionAt b side = sectionAtAs b side (checkOf b)
 
 -- the record at a place, from 1
 abbrev pub nth : List Terminal → ℕ → Entry
@@ -64,7 +101,7 @@ entryOf ts zero = Nothing
 entryOf ts (suc k) = nth ts k
 
 -- of a section's bytes
-abbrev pub terminalsIn : List ℕ → List Terminal
+unfoldable pub terminalsIn : List ℕ → List Terminal
 terminalsIn part = terminalsFrom part 0 (length part / recordSize)
 
 unfoldable pub entryIn : List ℕ → ℕ → Entry

@@ -1,21 +1,15 @@
 // Where the fields of the bytes stand: numbers, records and the trailer.
+use crate::Part;
 use crate::Record;
-use crate::Side;
 ghost use mathlib.Core.Path.{_≡_};
 ghost use mathlib.Core.Bool.{_&&_};
 ghost use Prim.Native.Nat.{_+_, _*_, _^_, _≤_, _<_};
 ghost use lib.ListN.{length};
-ghost use Rattle.sheet.specs.Format.{little, hasMark, recordOf, terminalAt, trailerOf, partOf};
+ghost use Rattle.sheet.specs.Format.{recordSize, trailerSize, little, hasMark, recordOf, terminalAt, trailerOf};
 
 pub const RECORD: usize = 12;
 
 pub const TRAILER: usize = 12;
-
-// One side's section as the trailer has it: its offset and its number of terminals.
-pub struct Part {
-    pub at: usize,
-    pub count: usize,
-}
 
 pub struct Trailer {
     pub top: Part,
@@ -48,7 +42,7 @@ pub fn has_mark(s: &[u8], mark: &[u8; 2]) -> bool
 
 // The record that starts at `at`.
 pub fn read_record(s: &[u8], at: usize) -> Record
-    requires { ⌜ at + 12 ≤ length (now s) ⌝ }
+    requires { ⌜ at + recordSize ≤ length (now s) ⌝ }
     ensures { λ r. ⌜ r ≡ recordOf (terminalAt (now (s .entry)) at) ⌝ }
 {
     let net = read_number(s, at, 2) as u16;
@@ -65,7 +59,7 @@ pub fn read_record(s: &[u8], at: usize) -> Record
 
 // The trailer's numbers, from its 12 bytes at the end.
 pub fn read_trailer(s: &[u8]) -> Trailer
-    requires { ⌜ 12 ≤ length (now s) ⌝ }
+    requires { ⌜ trailerSize ≤ length (now s) ⌝ }
     ensures { λ r. ⌜ r ≡ trailerOf (now (s .entry)) ⌝ }
 {
     let at = s.len() - TRAILER;
@@ -82,15 +76,5 @@ pub fn read_trailer(s: &[u8]) -> Trailer
         top,
         bottom,
         columns,
-    }
-}
-
-// The part of one side.
-pub fn part_of(t: Trailer, side: Side) -> Part
-    ensures { λ r. ⌜ r ≡ partOf t side ⌝ }
-{
-    match side {
-        Side::Top => t.top,
-        Side::Bottom => t.bottom,
     }
 }

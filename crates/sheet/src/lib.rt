@@ -7,12 +7,13 @@ mod soundness;
 mod terminal;
 mod walk;
 
+pub use parts::count_in;
+pub use parts::open;
+pub use parts::part_in;
 pub use parts::record_at;
 pub use parts::record_in;
 pub use parts::section;
 pub use parts::shape_of;
-pub use parts::sound_section;
-pub use parts::sound_shape;
 pub use refusals::number_of;
 pub use soundness::check;
 pub use terminal::allows;
@@ -65,6 +66,25 @@ pub struct Shape {
     pub bottom: usize,
     pub cells: usize,
     pub pins: usize,
+}
+
+// Where one side's section stands in the sheet: its offset and its number of terminals.
+pub struct Part {
+    pub at: usize,
+    pub count: usize,
+}
+
+// A sound sheet's shape, and where its two sections stand.
+pub struct Layout {
+    pub shape: Shape,
+    pub top: Part,
+    pub bottom: Part,
+}
+
+// The answer of the sheet check, with the layout of a sound sheet.
+pub enum Opened {
+    Sound(Layout),
+    Refused(Refusal),
 }
 
 // How many terminals of a sheet have been passed, top then bottom.

@@ -1,51 +1,52 @@
 // The parts of a sound sheet: its shape, one side's section, one terminal's record.
 use crate::Checked;
 use crate::Entry;
+use crate::Layout;
+use crate::Opened;
+use crate::Part;
 use crate::Shape;
 use crate::Side;
-use crate::format::part_of;
+use crate::format::RECORD;
 use crate::format::read_record;
 use crate::format::read_trailer;
 use crate::soundness::check;
 ghost use mathlib.Core.Path.{_≡_};
-ghost use Prim.Native.Nat.{_≤_};
+ghost use Prim.Native.Nat.{_+_, _*_, _≤_, min};
+ghost use lib.ListN.{length};
+ghost use Rattle.sheet.specs.Format.{recordSize, ofSide};
 ghost use Rattle.sheet.specs.Check.{checkOf};
-ghost use Rattle.sheet.specs.Parts.{cellsOf, shapeOf, sectionOf, entryIn, entryAt};
+ghost use Rattle.sheet.specs.Parts.{cellsOf, layoutOf, openedOf, shapeOf, OwnPart, offsetOf, bytesOf, sectionAt, sectionOf, terminalsIn, entryIn, entryAt};
 
-// The shape of a sound sheet, and all 0 for a refused one.
-pub fn shape_of(s: &[u8]) -> Shape
-    ensures { λ r. ⌜ r ≡ shapeOf (now (s .entry)) ⌝ }
+// Checks the sheet, and gives all that is needed to read a sound one further: nothing of it asks for a second check.
+pub fn open(s: &[u8]) -> Opened
+    ensures { λ r. ⌜ r ≡ openedOf (now (s .entry)) ⌝ }
 {
     let checked = check(s);
-    let Checked::Sound = checked else {
-        return Shape {
-            columns: 0,
-            top: 0,
-            bottom: 0,
-            cells: 0,
-            pins: 0,
-        };
-    };
-    sound_shape(s)
+    match checked {
+        Checked::Sound => Opened::Sound(layout_of(s)),
+        Checked::Refused(why) => Opened::Refused(why),
+    }
 }
 
-// The same of a sheet that is known to be sound, without a second check.
-pub fn sound_shape(s: &[u8]) -> Shape
+// The layout of a sheet that the check leaves.
+fn layout_of(s: &[u8]) -> Layout
     requires { ⌜ checkOf (now s) ≡ Checked.Sound ⌝ }
-    ensures { λ r. ⌜ r ≡ shapeOf (now (s .entry)) ⌝ }
+    ensures { λ r. ⌜ r ≡ layoutOf (now (s .entry)) ⌝ }
 {
     let t = read_trailer(s);
+    let top = t.top;
+    let bottom = t.bottom;
     let columns = t.columns;
-    let p = t.top.count;
-    let q = t.bottom.count;
-    let cells = cells_needed(columns, p, q);
-    Shape {
+    let p = top.count;
+    let q = bottom.count;
+    let shape = Shape {
         columns,
         top: p,
         bottom: q,
-        cells,
+        cells: cells_needed(columns, p, q),
         pins: p + q,
-    }
+    };
+    Layout { shape, top, bottom }
 }
 
 // The work cells that a search needs.
@@ -57,26 +58,76 @@ fn cells_needed(columns: usize, p: usize, q: usize) -> usize
     (p + 1) * (q + 1) * plane
 }
 
-// One side's section of a sound sheet, as a part of the sheet; the empty part for a refused sheet.
-pub fn section(s: &[u8], side: Side) -> &[u8]
-    ensures { λ r. ⌜ now r ≡ sectionOf (now (s .entry)) side ⌝ }
+// The shape of a sound sheet, and all 0 for a refused one.
+pub fn shape_of(s: &[u8]) -> Shape
+    ensures { λ r. ⌜ r ≡ shapeOf (now (s .entry)) ⌝ }
 {
-    let checked = check(s);
-    let Checked::Sound = checked else {
-        return &s[..0];
-    };
-    sound_section(s, side)
+    let opened = open(s);
+    match opened {
+        Opened::Sound(layout) => layout.shape,
+        Opened::Refused(_) => Shape {
+            columns: 0,
+            top: 0,
+            bottom: 0,
+            cells: 0,
+            pins: 0,
+        },
+    }
 }
 
-// The same of a sheet that is known to be sound, without a second check.
-pub fn sound_section(s: &[u8], side: Side) -> &[u8]
-    requires { ⌜ checkOf (now s) ≡ Checked.Sound ⌝ }
-    ensures { λ r. ⌜ now r ≡ sectionOf (now (s .entry)) side ⌝ }
+fn smaller(a: usize, b: usize) -> usize
+    ensures { λ r. ⌜ r ≡ min a b ⌝ }
 {
-    let part = part_of(read_trailer(s), side);
-    let at = part.at;
-    let end = at + 12 * part.count;
+    if a < b { a } else { b }
+}
+
+// Where so many records from `at` on end, or the file of `len` bytes does.
+fn end_of(len: usize, at: usize, count: usize) -> usize
+    requires { ⌜ at ≤ len ⌝ }
+    ensures { λ r. ⌜ r ≡ min (at + recordSize * count) len ⌝ }
+{
+    if count <= (len - at) / RECORD {
+        at + RECORD * count
+    } else {
+        len
+    }
+}
+
+// The records of a part, as far as they lie in the bytes, which may be any.
+pub fn part_in(s: &[u8], part: Part) -> &[u8]
+    ensures { λ r. ⌜ OwnPart (s .entry) r (offsetOf (now (s .entry)) part) (bytesOf (now (s .entry)) part) ⌝ }
+{
+    let at = smaller(part.at, s.len());
+    let end = end_of(s.len(), at, part.count);
     &s[at..end]
+}
+
+// Of two parts, that of a side.
+fn of_side(top: Part, bottom: Part, side: Side) -> Part
+    ensures { λ r. ⌜ r ≡ ofSide top bottom side ⌝ }
+{
+    match side {
+        Side::Top => top,
+        Side::Bottom => bottom,
+    }
+}
+
+// One side's section of a sound sheet, as a part of the sheet; the empty part for a refused sheet.
+pub fn section(s: &[u8], side: Side) -> &[u8]
+    ensures { λ r. ⌜ OwnPart (s .entry) r (sectionAt (now (s .entry)) side) (sectionOf (now (s .entry)) side) ⌝ }
+{
+    let opened = open(s);
+    match opened {
+        Opened::Sound(layout) => part_in(s, of_side(layout.top, layout.bottom, side)),
+        Opened::Refused(_) => &s[..0],
+    }
+}
+
+// How many terminals a section has.
+pub fn count_in(part: &[u8]) -> usize
+    ensures { λ r. ⌜ r ≡ length (terminalsIn (now (part .entry))) ⌝ }
+{
+    part.len() / RECORD
 }
 
 // The record at a place, from 1, of a section.
@@ -87,8 +138,8 @@ pub fn record_in(part: &[u8], place: usize) -> Entry
         return Entry::Nothing;
     }
     let i = place - 1;
-    if i < part.len() / 12 {
-        Entry::Terminal(read_record(part, 12 * i))
+    if i < part.len() / RECORD {
+        Entry::Terminal(read_record(part, RECORD * i))
     } else {
         Entry::Nothing
     }

@@ -1,9 +1,11 @@
 // The sheet check: sound, or the first refusal that applies. 1 to 5 in turn, then the terminals, top
 // before bottom, each tried for 6, 7 and 8 before the next.
 use crate::Checked;
+use crate::Part;
 use crate::Record;
 use crate::Refusal;
-use crate::format::Part;
+use crate::format::RECORD;
+use crate::format::TRAILER;
 use crate::format::Trailer;
 use crate::format::has_mark;
 use crate::format::read_record;
@@ -14,7 +16,7 @@ ghost use mathlib.Core.Bool.{true};
 ghost use Prim.Native.Nat.{_+_, _*_, _≤_};
 ghost use lib.ListN.{length};
 ghost use Rattle.channel.specs.Sheet.{distances?};
-ghost use Rattle.sheet.specs.Format.{terminalOf, terminalsFrom};
+ghost use Rattle.sheet.specs.Format.{recordSize, terminalOf, terminalsFrom};
 ghost use Rattle.sheet.specs.Check.{checkOf, formOf, trailerCheck, follows, laidOut, terminalCheck, sideCheck};
 
 pub fn check(s: &[u8]) -> Checked
@@ -37,7 +39,7 @@ pub fn check(s: &[u8]) -> Checked
 fn check_form(s: &[u8]) -> Checked
     ensures { λ r. ⌜ r ≡ formOf (now (s .entry)) ⌝ }
 {
-    if s.len() < 12 {
+    if s.len() < TRAILER {
         return Checked::Refused(Refusal::Short);
     }
     if has_mark(s, b"CP") {
@@ -78,7 +80,7 @@ fn laid_out(top: Part, bottom: Part, len: usize) -> bool
     requires { ⌜ (top .count ≤ 64) × (bottom .count ≤ 64) ⌝ }
     ensures { λ r. ⌜ r ≡ laidOut top bottom len ⌝ }
 {
-    if len != 12 * (top.count + bottom.count) + 12 {
+    if len != RECORD * (top.count + bottom.count) + TRAILER {
         return false;
     }
     if second_follows(top, bottom) {
@@ -92,12 +94,12 @@ fn second_follows(first: Part, second: Part) -> bool
     requires { ⌜ first .count ≤ 64 ⌝ }
     ensures { λ r. ⌜ r ≡ follows first second ⌝ }
 {
-    first.at == 0 && second.at == 12 * first.count
+    first.at == 0 && second.at == RECORD * first.count
 }
 
 // 6 to 8 of the terminals of one side, in order.
 fn check_side(s: &[u8], part: Part, columns: usize) -> Checked
-    requires { ⌜ part .at + 12 * part .count ≤ length (now s) ⌝ }
+    requires { ⌜ part .at + recordSize * part .count ≤ length (now s) ⌝ }
     ensures { λ r. ⌜ r ≡ sideCheck columns true (terminalsFrom (now (s .entry)) (part .at) (part .count)) ⌝ }
 {
     let count = part.count;
@@ -108,7 +110,7 @@ fn check_side(s: &[u8], part: Part, columns: usize) -> Checked
         let Checked::Sound = answer else {
             return answer;
         };
-        at += 12;
+        at += RECORD;
         i += 1;
     }
     Checked::Sound

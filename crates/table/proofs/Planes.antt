@@ -1,23 +1,23 @@
 -- Why the planes, filled one after the other, hold the table.
 -- Assumes nothing.
-use Prim.Native.Nat.{ℕ, zero, suc, _+_, _-_, _*_, _^_, _≤_, _<_}
+use Prim.Native.Nat.{ℕ, zero, suc, _+_, _-_, _*_, _%_, _^_, _≤_, _<_}
 use mathlib.Core.Path.{_≡_, refl, sym, _∙_, ap, ap₂}
 use mathlib.Core.List.{List}
 use mathlib.Core.Bool.{Bool, true, false, _&&_, _||_}
 use mathlib.Core.Logic.{_⊎_, inl, inr}
 use native.Mathlib.Omega.{arith}
-use native.Mathlib.Nat.{mul-le-mul-right, add-mul, one-mul, suc-mul, zero-mul}
+use native.Mathlib.Nat.{mul-le-mul-right, add-mul, one-mul, suc-mul, zero-mul, mod-eq-of-lt, mul-add-mod-self-right}
 use lib.ListN.{length, drop}
 use lib.Seq.{drop-drop}
 use lib.Dec.{leb, ltb, eqb}
-use borrow.Author.Tests.{ltb-true, eqb-true, eqb-false}
+use borrow.Author.Tests.{ltb-true, ltb-false, eqb-true, eqb-false}
 use Rattle.bits.specs.Bits.{bitOf}
 use Rattle.bits.specs.Cells.{wordAt, putWord}
 use Rattle.bits.proofs.Laws.{some-cong}
-use Rattle.bits.proofs.Words.{length-put, drop-put, word-put-same, word-put-other}
+use Rattle.bits.proofs.Words.{length-put, drop-put, cell-put, word-put-same, word-put-other}
 use Rattle.table.specs.declared.Grid.{Grid}
 use Rattle.table.specs.Entry.{held, startPart, topPart, bottomPart, bothPart, entry, bottomsOnly, withTops, cell, allowedAt, rangeAt, loadAt}
-use Rattle.table.specs.Room.{Measures, Room, Earlier, Filled, baseOf}
+use Rattle.table.specs.Room.{Measures, Room, Earlier, SameGaps, Filled, baseOf}
 
 -- the products of the places
 next-product : (n m : ℕ) → (n + 1) * m ≡ n * m + m
@@ -129,16 +129,25 @@ module _ (rules loads : List ℕ) (bound : ℕ) (g : Grid) (sizes : Measures g) 
       omega
       (arith, next-product m (g .size), mul-le-mul-right (g .size) more, ap (λ (k : ℕ). k * g .stride) e)
 
+-- the planes follow one another, each with its cells counted from 0
+pub in-plane : (g : Grid) → Measures g → (n m k : ℕ) → k < g .size → (baseOf g n m + k) % g .size ≡ k
+in-plane g sizes n m k h =
+    ap (λ (c : ℕ). c % g .size) whole ∙ mul-add-mod-self-right (n * g .across + m) (g .size) k ∙ mod-eq-of-lt h
+  where
+    whole : baseOf g n m + k ≡ (n * g .across + m) * g .size + k
+    whole = rw (sizes .stride) (omega arith)
+
 -- the first x rows of plane (i, j), which starts at `at`, are filled, and so are the planes before it
 pub record Rows (rules loads : List ℕ) (bound : ℕ) (g : Grid) (i j at x : ℕ) (old new : List ℕ) : Type 0 where
   pub kept : length new ≡ length old
   pub behind : drop (at + g .size) new ≡ drop (at + g .size) old
+  pub gaps : SameGaps g old new
   pub cells : Earlier rules loads bound g i j new
   pub rows : (n y : ℕ) → n < x → y < 64 → held new at n y ≡ cell rules loads bound i j n y
 
 module _ (rules loads : List ℕ) (bound : ℕ) (g : Grid) (sizes : Measures g) (i j at : ℕ) (place : at ≡ baseOf g i j) (old : List ℕ) where
   pub rows-none : Earlier rules loads bound g i j old → Rows rules loads bound g i j at 0 old old
-  rows-none h = record { kept = refl; behind = refl; cells = h; rows = λ n y l. absurd (omega arith) }
+  rows-none h = record { kept = refl; behind = refl; gaps = λ k l. refl; cells = h; rows = λ n y l. absurd (omega arith) }
 
   -- one row more
   pub rows-more :
@@ -149,6 +158,7 @@ module _ (rules loads : List ℕ) (bound : ℕ) (g : Grid) (sizes : Measures g) 
       record {
         kept = length-put work (at + 4 * x) w ∙ r .kept;
         behind = drop-put work (at + 4 * x) w (at + g .size) (omega (arith, sizes .rows .0)) ∙ r .behind;
+        gaps = λ k l. cell-put work (at + 4 * x) w k (beside k l (ltb k (at + 4 * x)) (ltb k (at + 4 * x + 4)) refl refl) ∙ r .gaps k l;
         cells =
             λ n m k y earlier hm hk hy.
             ap (λ (v : ℕ). bitOf v y)
@@ -158,6 +168,19 @@ module _ (rules loads : List ℕ) (bound : ℕ) (g : Grid) (sizes : Measures g) 
         rows = λ n y l hy. by-row n y hy (eqb n x) refl (omega arith);
       }
     where
+      -- a cell behind the rows of its plane is none of the four
+      beside :
+          (k : ℕ) → 4 * g .rows ≤ k % g .size → (s t : Bool) → ltb k (at + 4 * x) ≡ s → ltb k (at + 4 * x + 4) ≡ t
+          → (k < at + 4 * x) ⊎ (at + 4 * x + 4 ≤ k)
+      beside k l true t es et = inl (ltb-true _ _ es)
+      beside k l false false es et = inr (ltb-false _ _ et)
+      beside k l false true es et =
+          let from : at + 4 * x ≤ k = ltb-false _ _ es in
+          let to : k < at + 4 * x + 4 = ltb-true _ _ et in
+          let there : baseOf g i j + (k - at) ≡ k = omega arith in
+          absurd
+          (omega (arith, sizes .rows .0, rw there at (in-plane g sizes i j (k - at) (omega (arith, sizes .rows .0)))))
+
       here : wordAt (putWord work (at + 4 * x) w) (at + 4 * x) ≡ w
       here = word-put-same work (at + 4 * x) w (omega (arith, sizes .rows .0, r .kept)) small
 
@@ -179,6 +202,7 @@ module _ (rules loads : List ℕ) (bound : ℕ) (g : Grid) (sizes : Measures g) 
       record {
         kept = r .kept;
         behind = r .behind;
+        gaps = r .gaps;
         cells = λ n m x y earlier hm hx hy. by-plane n m x y earlier hm hx hy (eqb n i) (eqb m j) refl refl;
       }
     where
@@ -200,6 +224,7 @@ row-filled rules loads bound g i end old new f =
     record {
       kept = f .kept;
       behind = f .behind;
+      gaps = f .gaps;
       cells = λ n m x y earlier hm hx hy. f .cells n m x y (by-row n m earlier hm (eqb n i) refl) hm hx hy;
     }
   where
@@ -208,12 +233,12 @@ row-filled rules loads bound g i end old new f =
     by-row n m (inl l) hm false e = inl (omega (arith, eqb-false n i e))
     by-row n m (inr (e, l)) hm t q = absurd (omega arith)
 
--- one step of filling after another
+-- one step of filling after another, of the same table or of another bound's
 pub filled-then :
-    (rules loads : List ℕ) (bound : ℕ) (g : Grid) (i j i' j' end end' : ℕ) (old mid new : List ℕ)
-    → Filled rules loads bound g i j end old mid → Filled rules loads bound g i' j' end' mid new → end ≤ end'
-    → Filled rules loads bound g i' j' end' old new
-filled-then rules loads bound g i j i' j' end end' old mid new f h l =
+    {rules loads : List ℕ} {bound bound' : ℕ} {g : Grid} {i j i' j' end end' : ℕ} {old mid new : List ℕ}
+    → Filled rules loads bound g i j end old mid → Filled rules loads bound' g i' j' end' mid new → end ≤ end'
+    → Filled rules loads bound' g i' j' end' old new
+filled-then {end = end} {end' = end'} {old = old} {mid = mid} f h l =
     record {
       kept = h .kept ∙ f .kept;
       behind =
@@ -223,6 +248,7 @@ filled-then rules loads bound g i j i' j' end end' old mid new f h l =
           ∙ ap (drop (end' - end)) (f .behind)
           ∙ drop-drop (end' - end) end old
           ∙ ap (λ (k : ℕ). drop k old) (sym further);
+      gaps = λ k past. h .gaps k past ∙ f .gaps k past;
       cells = h .cells;
     }
   where
@@ -275,7 +301,7 @@ module _ (g : Grid) (i : ℕ) where
 pub filled-none :
     (rules loads : List ℕ) (bound : ℕ) (g : Grid) (i j end : ℕ) (work : List ℕ) → Earlier rules loads bound g i j work
     → Filled rules loads bound g i j end work work
-filled-none rules loads bound g i j end work h = record { kept = refl; behind = refl; cells = h }
+filled-none rules loads bound g i j end work h = record { kept = refl; behind = refl; gaps = λ k l. refl; cells = h }
 
 pub nothing-earlier : (rules loads : List ℕ) (bound : ℕ) (g : Grid) (work : List ℕ) → Earlier rules loads bound g 0 0 work
 nothing-earlier rules loads bound g work n m x y (inl l) hm hx hy = absurd (omega arith)

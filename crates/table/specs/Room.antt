@@ -1,11 +1,11 @@
 -- What a row of the table needs of the buffers, and what a filled table is.
 -- Assumes nothing.
-use Prim.Native.Nat.{ℕ, suc, _+_, _-_, _*_, _≤_, _<_}
+use Prim.Native.Nat.{ℕ, suc, _+_, _-_, _*_, _%_, _≤_, _<_}
 use mathlib.Core.Path.{_≡_}
 use mathlib.Core.List.{List}
 use mathlib.Core.Bool.{Bool, _&&_}
 use mathlib.Core.Logic.{_⊎_}
-use lib.ListN.{length, drop}
+use lib.ListN.{length, getD, drop}
 use lib.Dec.{leb}
 use Rattle.bits.specs.Bits.{bitOf, some, inWord}
 use Rattle.table.specs.declared.Grid.{Grid}
@@ -43,10 +43,15 @@ Earlier rules loads bound g i j work =
     (n m x y : ℕ) → (n < i) ⊎ ((n ≡ i) × (m < j)) → m < g .across → x < g .rows → y < 64
     → held work (baseOf g n m) x y ≡ cell rules loads bound n m x y
 
--- the planes before (i, j) hold the table, and what stands behind `end` is as it was
+-- in each plane the cells behind its rows are as they were: plane follows plane, so that cell k is cell k % size of its plane
+abbrev pub SameGaps : Grid → List ℕ → List ℕ → Type 0
+SameGaps g old new = (k : ℕ) → 4 * g .rows ≤ k % g .size → getD new k 0 ≡ getD old k 0
+
+-- the planes before (i, j) hold the table, and every cell behind their rows, or behind `end`, is as it was
 pub record Filled (rules loads : List ℕ) (bound : ℕ) (g : Grid) (i j end : ℕ) (old new : List ℕ) : Type 0 where
   pub kept : length new ≡ length old
   pub behind : drop end new ≡ drop end old
+  pub gaps : SameGaps g old new
   pub cells : Earlier rules loads bound g i j new
 
 -- some row from low to high, whose step to next is in `by`, holds a number of the mask

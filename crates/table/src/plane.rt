@@ -55,7 +55,7 @@ fn fill_row(
     }
 }
 
-// Fills the planes of 0 to p.
+// Fills the planes of 0 to p. A cell that is in no row of theirs stays as it was.
 pub fn fill(work: &mut [u16], rules: &[u64], loads: &[u8], grid: Grid, bound: u8, p: usize)
     requires { ⌜ Sides (now rules) (now loads) × Measures grid × (p ≤ 64) × ((p + 1) * grid .stride ≤ length (now work)) ⌝ }
     ensures { λ _. ⌜ Filled (now (rules .entry)) (now (loads .entry)) bound grid (p + 1) 0 ((p + 1) * grid .stride) (now (work .entry)) (now (work .exit)) ⌝ }

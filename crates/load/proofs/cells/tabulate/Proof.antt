@@ -9,46 +9,19 @@ use borrow.Author.Needs.{needs}
 use Rattle.load.proofs.cells.tabulate.Statement.{statement}
 use Rattle.load.proofs.cells.tabulate.Tie as tie
 
-slice-aggregate-list-spans : tie.Need-slice-aggregate-list-spans
-slice-aggregate-list-spans c = search needs
-
-list-spans-requires : tie.Need-list-spans-requires
-list-spans-requires c κs = search needs
-
-mul-end : tie.Need-mul-end
-mul-end c = search needs
-
 slice-aggregate-write-table : tie.Need-slice-aggregate-write-table
 slice-aggregate-write-table c = sym (length-take-le _ _ (c .before .before .before .before .before .before .pre .0 .split))
-
-mul-write-table : tie.Need-mul-write-table
-mul-write-table c = search needs
-
-sub-write-table : tie.Need-sub-write-table
-sub-write-table c = search needs
-
-part-write-table-start : tie.Need-part-write-table-start
-part-write-table-start c = search needs
-
-part-write-table-end : tie.Need-part-write-table-end
-part-write-table-end c = search needs
-
-array-share-prefix-spans : tie.Need-array-share-prefix-spans
-array-share-prefix-spans c = search needs
 
 slice-aggregate-write-table-2 : tie.Need-slice-aggregate-write-table-2
 slice-aggregate-write-table-2 c =
     let d = c .before .before .before .before .before .before .before .before in
     let l = c .before .before .before .before .list-spans in
-    sym (length-take-le (5 * l .result) (l .last .1 .1 .0) (omega (arith, l .ensures .0, l .kept .1 .1 .0, d .pre .0 .top, d .pre .0 .bottom)))
+    sym (length-take-le (5 * l .result) (l .last .1 .1 .0) (omega (arith, l .ensures .count, l .kept .1 .1 .0, d .pre .0 .top, d .pre .0 .bottom)))
 
 write-table-requires : tie.Need-write-table-requires
 write-table-requires c κs =
     let d = c .before .before .before .before .before .before .before .before .before in
-    (sides-listed (d .args .nets .now) (d .args .p) _ (d .pre .0) (c .before .before .before .before .before .list-spans .ensures .1), d .pre .1)
-
-same-length : tie.Need-same-length
-same-length c = search needs
+    (sides-listed (d .args .nets .now) (d .args .p) _ (d .pre .0) (c .before .before .before .before .before .list-spans .ensures .spans), d .pre .1)
 
 returns : tie.Need-returns
 returns c =
@@ -59,16 +32,16 @@ pub tabulate-spec : {M : Type 1} → statement M
 tabulate-spec =
     tie.close
     (tie.spec
-    slice-aggregate-list-spans
-    list-spans-requires
-    mul-end
+    (λ c. search needs)
+    (λ c κs. search needs)
+    (λ c. search needs)
     slice-aggregate-write-table
-    mul-write-table
-    sub-write-table
-    part-write-table-start
-    part-write-table-end
-    array-share-prefix-spans
+    (λ c. search needs)
+    (λ c. search needs)
+    (λ c. search needs)
+    (λ c. search needs)
+    (λ c. search needs)
     slice-aggregate-write-table-2
     write-table-requires
-    same-length
+    (λ c. search needs)
     returns)

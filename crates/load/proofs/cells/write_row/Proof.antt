@@ -4,21 +4,21 @@ use Prim.Native.Nat.{ℕ, _+_, _≤_, _<_, _-_}
 use mathlib.Core.Path.{_≡_, _∙_}
 use native.Mathlib.Omega.{arith}
 use lib.ListN.{length}
-use Rattle.load.specs.Cuts.{cellAt, Written}
-use Rattle.load.proofs.Table.{row-none, row-more, row-done}
+use Rattle.load.specs.Cuts.{Written}
+use Rattle.load.proofs.Table.{written-none, row-more}
 use Rattle.load.proofs.cells.write_row.Statement.{statement}
 use Rattle.load.proofs.cells.write_row.Tie as tie
 
 abbrev Inv-loop : tie.InvT-loop
 Inv-loop tops bottoms spans i loads₀ j₀ loads j =
     (j ≤ length bottoms + 1)
-    × Written tops bottoms loads₀ loads (cellAt i 0) (λ (x y : ℕ). (x ≡ i) × (y < j))
+    × Written tops bottoms loads₀ loads (λ (x y : ℕ). (x ≡ i) × (y < j))
 
 abbrev μ-loop : tie.MeasureT-loop
 μ-loop tops bottoms spans i loads₀ j₀ loads j = length bottoms + 1 - j
 
 loop-holds : tie.Need-loop-holds Inv-loop μ-loop
-loop-holds c = (omega arith, row-none _ _ _ _)
+loop-holds c = (omega arith, written-none _ _ _ _ (λ x y r. omega (arith, r .1)))
 
 add-loop : tie.Need-add-loop Inv-loop μ-loop
 add-loop c = omega arith
@@ -46,7 +46,8 @@ same-length c = c .before .loop .inv .1 .size
 returns : tie.Need-returns Inv-loop μ-loop
 returns c =
     let l = c .before .loop in
-    row-done _ _ _ (l .loads) _ (l .j) _ (c .loop-test .left) (l .inv .1)
+    let all : l .j ≡ length (c .before .before .before .before .before .before .args .bottoms .now) + 1 = omega arith in
+    rw all at (l .inv .1)
 
 pub write-row-spec : {M : Type 1} → statement M
 write-row-spec =

@@ -5,18 +5,18 @@ use mathlib.Core.Path.{_∙_}
 use native.Mathlib.Omega.{arith}
 use lib.ListN.{length}
 use Rattle.load.specs.Cuts.{Written}
-use Rattle.load.proofs.Table.{table-none, table-more, table-done}
+use Rattle.load.proofs.Table.{written-none, table-more, table-done}
 use Rattle.load.proofs.cells.write_table.Statement.{statement}
 use Rattle.load.proofs.cells.write_table.Tie as tie
 
 abbrev Inv-loop : tie.InvT-loop
-Inv-loop tops bottoms spans loads₀ i₀ loads i = (i ≤ length tops + 1) × Written tops bottoms loads₀ loads 0 (λ (x y : ℕ). (x < i) × (y < length bottoms + 1))
+Inv-loop tops bottoms spans loads₀ i₀ loads i = (i ≤ length tops + 1) × Written tops bottoms loads₀ loads (λ (x y : ℕ). (x < i) × (y < length bottoms + 1))
 
 abbrev μ-loop : tie.MeasureT-loop
 μ-loop tops bottoms spans loads₀ i₀ loads i = length tops + 1 - i
 
 loop-holds : tie.Need-loop-holds Inv-loop μ-loop
-loop-holds c = (omega arith, table-none _ _ _)
+loop-holds c = (omega arith, written-none _ _ _ _ (λ x y r. omega (arith, r .0)))
 
 add-loop : tie.Need-add-loop Inv-loop μ-loop
 add-loop c = omega arith

@@ -1,27 +1,28 @@
--- `load::read_nets` meets its contract. The loop's invariant: the first i nets are in their places. The measure is how many are left.
+-- `load::read_nets` meets its contract. The loop's invariant: the first i nets are in their places, and all else is as it was. The
+-- measure is how many are left.
 -- Assumes nothing.
-use Prim.Native.Nat.{_+_, _≤_, _-_, _/_}
+use Prim.Native.Nat.{_+_, _≤_, _-_}
 use mathlib.Core.Path.{_≡_, refl, _∙_}
-use mathlib.Core.List.{_++_, append-nil}
 use native.Mathlib.Omega.{arith}
-use native.Mathlib.Nat.{add-zero}
-use lib.ListN.{length, take, length-set}
+use native.Mathlib.Numerals.{add-one}
+use lib.ListN.{length, length-set}
+use lib.Seq.{paste, paste-zero, paste-suc}
 use Rattle.load.specs.Cuts.{netsIn}
-use Rattle.load.proofs.Sections.{length-nets, fill-more, fill-done}
+use Rattle.load.proofs.Sections.{length-nets, nets-copied}
+use borrow.Author.Needs.{needs}
 use Rattle.load.proofs.nets.read_nets.Statement.{statement}
 use Rattle.load.proofs.nets.read_nets.Tie as tie
 
 abbrev Inv-loop : tie.InvT-loop
-Inv-loop part nets₀ from n i₀ nets i =
-    (length nets ≡ length nets₀)
-    × (i ≤ n)
-    × (take (from + i) nets ≡ take from nets₀ ++ take i (netsIn part))
+Inv-loop part nets₀ from n i₀ nets i = (length nets ≡ length nets₀) × (i ≤ n) × (nets ≡ paste nets₀ from (netsIn part) i)
 
 abbrev μ-loop : tie.MeasureT-loop
 μ-loop part nets₀ from n i₀ nets i = n - i
 
 loop-holds : tie.Need-loop-holds Inv-loop μ-loop
-loop-holds c = (refl, omega arith, rw (add-zero, append-nil))
+loop-holds c =
+    let a = c .before .before .before .args in
+    (refl, omega arith, paste-zero (a .nets .now) (a .from) (netsIn (a .part .now)))
 
 net-of-requires : tie.Need-net-of-requires Inv-loop μ-loop
 net-of-requires c κs = omega arith
@@ -43,14 +44,14 @@ loop-less c = omega arith
 
 loop-again : tie.Need-loop-again Inv-loop μ-loop
 loop-again c =
-    let start = c .before .before .before .before .before in
+    let start = c .before .before .before .before .before .before in
     let a = start .args in
     let l = c .before .before .loop in
-    let part = a .part .now in (
+    let ns = netsIn (a .part .now) in (
       length-set (l .nets) (a .from + l .i) (c .net-of .result) ∙ l .inv .0,
       omega arith,
-      rw (c .net-of .ensures) (fill-more (l .nets) (a .nets .now) (netsIn part) (a .from) (l .i) (omega arith)
-          (omega (arith, length-nets part)) (l .inv .2)),
+      rw (c .net-of .ensures, l .inv .2, add-one)
+          (paste-suc (a .nets .now) (a .from) ns (l .i) 0 (omega arith) (omega (arith, length-nets (a .part .now)))),
     )
 
 same-length : tie.Need-same-length Inv-loop μ-loop
@@ -58,11 +59,9 @@ same-length c = c .before .loop .inv .0
 
 returns : tie.Need-returns Inv-loop μ-loop
 returns c =
-    let start = c .before .before .before .before in
-    let a = start .args in
+    let a = c .before .before .before .before .before .args in
     let l = c .before .loop in
-    fill-done (l .nets) (a .nets .now) (netsIn (a .part .now)) (a .from) (l .i) (length (a .part .now) / 12) (omega arith)
-    (length-nets (a .part .now)) (l .inv .2)
+    nets-copied (a .part .now) (a .nets .now) (l .nets) (a .from) (l .i) (omega arith) (l .inv .2)
 
 pub read-nets-spec : {M : Type 1} → statement M
 read-nets-spec =
@@ -70,6 +69,7 @@ read-nets-spec =
     (tie.spec
     Inv-loop
     μ-loop
+    (λ c κs. search needs)
     loop-holds
     net-of-requires
     add-nets

@@ -87,6 +87,7 @@ returns-2 c =
     (s .ensures ∙ ap (any (eqb n)) (part-rest ns (a .m + 1)))
     (c .before .before .before .before .before .before .before .if1 .left)
     (c .before .before .before .before .span-of .ensures ∙ ap (λ (bottoms : List ℕ). spanOf (take (a .p) ns) bottoms n) (part-rest ns (a .p)))
+    (omega arith)
     (c .before .before .write-span .ensures)
 
 pub list-net-spec : {M : Type 1} → statement M

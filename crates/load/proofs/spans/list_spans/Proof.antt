@@ -1,5 +1,5 @@
--- `load::list_spans` meets its contract. The loop's invariant: the spans so far, with those of the nets that are left, make the list.
--- The measure is how many nets are left.
+-- `load::list_spans` meets its contract. The loop's invariant: the spans so far, with those of the nets that are left, make the list,
+-- and what is behind them is as it was. The measure is how many nets are left.
 -- Assumes nothing.
 use Prim.Native.Nat.{_*_, _≤_, _-_}
 use mathlib.Core.Path.{_≡_, refl, _∙_}
@@ -8,7 +8,7 @@ use native.Mathlib.Omega.{arith}
 use lib.ListN.{length, take, drop}
 use Rattle.channel.specs.Density.{distinct}
 use Rattle.load.specs.Ends.{spansOf}
-use Rattle.load.proofs.Listing.{put-more, put-count, put-done}
+use Rattle.load.proofs.Listing.{put-more, put-rest, put-count, put-done}
 use Rattle.load.proofs.spans.list_spans.Statement.{statement}
 use Rattle.load.proofs.spans.list_spans.Tie as tie
 
@@ -18,18 +18,19 @@ Inv-loop nets p spans₀ k₀ m₀ spans k m =
     × (m ≤ length nets)
     × (k ≤ m)
     × (take (5 * k) spans ++ spansOf (take p nets) (drop p nets) (distinct (drop m nets)) ≡ spansOf (take p nets) (drop p nets) (distinct nets))
+    × (drop (5 * k) spans ≡ drop (5 * k) spans₀)
 
 abbrev μ-loop : tie.MeasureT-loop
 μ-loop nets p spans₀ k₀ m₀ spans k m = length nets - m
 
 loop-holds : tie.Need-loop-holds Inv-loop μ-loop
-loop-holds c = (refl, omega arith, omega arith, refl)
+loop-holds c = (refl, omega arith, omega arith, refl, refl)
 
 list-net-requires : tie.Need-list-net-requires Inv-loop μ-loop
 list-net-requires c κs =
     let d = c .before .before .before .before .before in
     let l = c .before .before .loop in
-    (d .pre .0, c .before .loop-test .taken, l .inv .2, l .inv .0 ∙ d .pre .1)
+    (d .pre .0, c .before .loop-test .taken, omega arith, l .inv .0 ∙ d .pre .1)
 
 add-m : tie.Need-add-m Inv-loop μ-loop
 add-m c = omega arith
@@ -46,6 +47,7 @@ loop-again c =
       omega arith,
       omega (arith, put .count, put-count (a .nets .now) (l .m)),
       put-more _ _ (a .nets .now) (l .m) (l .spans) _ (l .k) _ _ (c .before .before .before .before .loop-test .taken) put (l .inv .3),
+      put-rest _ _ (a .nets .now) (l .m) _ (l .spans) _ (l .k) _ put (l .inv .4),
     )
 
 same-length : tie.Need-same-length Inv-loop μ-loop
@@ -55,7 +57,11 @@ returns : tie.Need-returns Inv-loop μ-loop
 returns c =
     let a = c .before .before .before .before .args in
     let l = c .before .loop in
-    (omega arith, put-done _ _ (a .nets .now) (l .m) _ _ (c .loop-test .left) (l .inv .3))
+    record {
+      count = omega arith;
+      spans = put-done _ _ (a .nets .now) (l .m) _ _ (c .loop-test .left) (l .inv .3);
+      rest = l .inv .4;
+    }
 
 pub list-spans-spec : {M : Type 1} → statement M
 list-spans-spec =

@@ -6,6 +6,7 @@ use mathlib.Core.Path.{_≡_, refl, _∙_}
 use native.Mathlib.Omega.{arith}
 use lib.ListN.{length, drop}
 use borrow.Author.Needs.{needs}
+use Rattle.table.specs.Room.{SameGaps}
 use Rattle.search.specs.Pass.{placeable, tableEnd}
 use Rattle.search.proofs.Passes.{Between, between-start, between-more, between-end, between-falls}
 use Rattle.search.proofs.Cleared.{given-kept}
@@ -14,7 +15,10 @@ use Rattle.search.proofs.pass.least.Tie as tie
 
 abbrev Inv-loop : tie.InvT-loop
 Inv-loop work₀ rules loads plan failed low₀ high₀ ahead₀ work low high ahead =
-    Between (placeable rules loads plan) low high × (length work ≡ length work₀) × (drop (tableEnd plan) work ≡ drop (tableEnd plan) work₀)
+    Between (placeable rules loads plan) low high
+    × (length work ≡ length work₀)
+    × (drop (tableEnd plan) work ≡ drop (tableEnd plan) work₀)
+    × SameGaps (plan .grid) work₀ work
 
 abbrev μ-loop : tie.MeasureT-loop
 μ-loop work₀ rules loads plan failed low₀ high₀ ahead₀ work low high ahead = high - low
@@ -27,7 +31,7 @@ add-low c =
 loop-holds : tie.Need-loop-holds Inv-loop μ-loop
 loop-holds c =
     let start = c .before .before .before in
-    (between-start _ (start .pre .3) _ (start .pre .1) (start .pre .2), refl, refl)
+    (between-start _ (start .pre .3) _ (start .pre .1) (start .pre .2), refl, refl, λ k h. refl)
 
 next-bound-requires : tie.Need-next-bound-requires Inv-loop μ-loop
 next-bound-requires c κs = c .loop-test .taken
@@ -73,6 +77,7 @@ loop-again c =
           (at-next .next-bound .ensures .0) (at-next .next-bound .ensures .1) (at-try-bound .try-bound .ensures .answer) (o .inv .0)),
       at-try-bound .try-bound .ensures .table .kept ∙ o .inv .1,
       at-try-bound .try-bound .ensures .table .behind ∙ o .inv .2,
+      λ k h. at-try-bound .try-bound .ensures .table .gaps k h ∙ o .inv .3 k h,
     )
 
 same-length : tie.Need-same-length Inv-loop μ-loop
@@ -81,7 +86,13 @@ same-length c = c .before .loop .inv .1
 returns : tie.Need-returns Inv-loop μ-loop
 returns c =
     let o = c .before .loop in
-    record { least = between-end _ (o .low) (o .high) (c .loop-test .left) (o .inv .0); small = o .inv .0 .top; kept = o .inv .1; behind = o .inv .2 }
+    record {
+      least = between-end _ (o .low) (o .high) (c .loop-test .left) (o .inv .0);
+      small = o .inv .0 .top;
+      kept = o .inv .1;
+      behind = o .inv .2;
+      gaps = o .inv .3;
+    }
 
 pub least-spec : {M : Type 1} → statement M
 least-spec =

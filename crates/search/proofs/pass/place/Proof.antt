@@ -4,7 +4,7 @@ use mathlib.Core.Path.{_∙_, sym}
 use native.Mathlib.Omega.{arith}
 use borrow.Author.Needs.{needs}
 use Rattle.search.proofs.Passes.{below-lower}
-use Rattle.search.proofs.Cleared.{given-kept, filled-here}
+use Rattle.search.proofs.Cleared.{given-kept, filled-after}
 use Rattle.search.proofs.pass.place.Statement.{statement}
 use Rattle.search.proofs.pass.place.Tie as tie
 
@@ -36,11 +36,9 @@ returns c =
           holds = sym (tried .answer) ∙ at-if .if1 .taken;
           smaller = λ e l. below-lower (a .rules .now) (a .loads .now) (a .plan) e (omega (arith, l, at-lower .lower-bound .ensures));
         },
-        filled-here _ _ _ _ _ _ _ _ _ (tried .table),
         c .before .before .walk .ensures,
       );
-      kept = tried .table .kept;
-      behind = tried .table .behind;
+      table = tried .table;
     }
 
 place-above-requires : tie.Need-place-above-requires
@@ -62,7 +60,7 @@ returns-2 c =
     let at-place-above = c .before .before .before .before in
     let table = at-place-above .before .before .before .before .before .before .try-bound .ensures .table in
     let placed = at-place-above .place-above .ensures in
-    record { came = placed .came; kept = placed .kept ∙ table .kept; behind = placed .behind ∙ table .behind }
+    record { came = placed .came; table = filled-after (table .kept) (table .behind) (table .gaps) (placed .table) }
 
 pub place-spec : {M : Type 1} → statement M
 place-spec =

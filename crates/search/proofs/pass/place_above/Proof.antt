@@ -1,7 +1,7 @@
 -- `search::place_above` meets its contract: the passes find the least bound, and the walk over its table gives the columns.
 -- Assumes nothing.
 use mathlib.Core.Path.{refl, _∙_, sym}
-use Rattle.search.proofs.Cleared.{given-kept, filled-here}
+use Rattle.search.proofs.Cleared.{given-kept, filled-after}
 use borrow.Author.Needs.{needs}
 use Rattle.search.proofs.pass.place_above.Statement.{statement}
 use Rattle.search.proofs.pass.place_above.Tie as tie
@@ -32,11 +32,13 @@ returns : tie.Need-returns
 returns c =
     let at-fill = c .before .before .before .before .before .before .before in
     let at-least = at-fill .before .before .before .before in
-    let at-try-bound = at-least .before .before .before .before .before in
+    let first = at-least .before .before .before .before .before .try-bound .ensures .table in
+    let passes = at-least .least .ensures in
     record {
-      came = (at-least .least .ensures .least, filled-here _ _ _ _ _ _ _ _ _ (at-fill .fill .ensures), c .before .before .walk .ensures);
-      kept = at-fill .fill .ensures .kept ∙ at-least .least .ensures .kept ∙ at-try-bound .try-bound .ensures .table .kept;
-      behind = at-fill .fill .ensures .behind ∙ at-least .least .ensures .behind ∙ at-try-bound .try-bound .ensures .table .behind;
+      came = (passes .least, c .before .before .walk .ensures);
+      table =
+          filled-after (passes .kept ∙ first .kept) (passes .behind ∙ first .behind) (λ k h. passes .gaps k h ∙ first .gaps k h)
+          (at-fill .fill .ensures);
     }
 
 same-length-3 : tie.Need-same-length-3
@@ -46,8 +48,7 @@ returns-2 : tie.Need-returns-2
 returns-2 c =
     record {
       came = (sym (c .before .before .before .try-bound .ensures .answer) ∙ c .if1 .left, refl);
-      kept = c .before .before .before .try-bound .ensures .table .kept;
-      behind = c .before .before .before .try-bound .ensures .table .behind;
+      table = c .before .before .before .try-bound .ensures .table;
     }
 
 pub place-above-spec : {M : Type 1} → statement M

@@ -1,4 +1,4 @@
--- `search::solve` meets its contract: the rules and loads are those of the sections, and what the passes come to is the best assignment.
+-- `search::find` meets its contract: the rules and loads are those of the sections, and what the passes come to is the best assignment.
 -- Assumes nothing.
 use mathlib.Core.Path.{refl, _∙_}
 use mathlib.Core.Logic.{inl, inr}
@@ -7,21 +7,21 @@ use lib.ListN.{length}
 use borrow.Author.Needs.{needs}
 use Rattle.sheet.specs.Parts.{terminalsIn}
 use Rattle.search.proofs.Reading.{rules-kept}
-use Rattle.search.proofs.Solving.{loads-sheet, section-counts, crowded-solved, place-asked, placed-solved}
-use Rattle.search.proofs.solve.solve.Statement.{statement}
-use Rattle.search.proofs.solve.solve.Tie as tie
+use Rattle.search.proofs.Solving.{loads-sheet, crowded-worked, place-asked, placed-worked}
+use Rattle.search.proofs.solve.find.Statement.{statement}
+use Rattle.search.proofs.solve.find.Tie as tie
 
 returns : tie.Need-returns
 returns c =
     let start = c .before .before .before .before .before in
     let a = start .args in
-    crowded-solved (a .top .now) (a .bottom .now) (a .shape) (length (a .columns .now)) (length (a .work .now)) (start .pre) _ _ (inl (c .if1 .taken))
+    crowded-worked (a .top .now) (a .bottom .now) (a .shape) (length (a .columns .now)) (length (a .work .now)) (start .pre) _ _ (inl (c .if1 .taken))
 
 returns-2 : tie.Need-returns-2
 returns-2 c =
     let start = c .before .before .before .before .before .before in
     let a = start .args in
-    crowded-solved (a .top .now) (a .bottom .now) (a .shape) (length (a .columns .now)) (length (a .work .now)) (start .pre) _ _ (inr (c .if2 .taken))
+    crowded-worked (a .top .now) (a .bottom .now) (a .shape) (length (a .columns .now)) (length (a .work .now)) (start .pre) _ _ (inr (c .if2 .taken))
 
 make-plan-requires : tie.Need-make-plan-requires
 make-plan-requires c κs = search needs
@@ -35,8 +35,7 @@ read-rules-requires c κs =
     let a = start .args in (
       search needs,
       omega arith,
-      section-counts (a .top .now) (a .bottom .now) (a .shape) (length (a .columns .now)) (length (a .work .now))
-          (start .pre) .0,
+      start .pre .sound .counts .0,
     )
 
 slice-aggregate-read-rules-2 : tie.Need-slice-aggregate-read-rules-2
@@ -48,8 +47,7 @@ read-rules-requires-2 c κs =
     let a = start .args in (
       c .before .before .read-rules .ensures .kept ∙ refl,
       omega arith,
-      section-counts (a .top .now) (a .bottom .now) (a .shape)
-          (length (a .columns .now)) (length (a .work .now)) (start .pre) .1,
+      start .pre .sound .counts .1,
     )
 
 slice-aggregate-read-loads : tie.Need-slice-aggregate-read-loads
@@ -59,10 +57,8 @@ read-loads-requires : tie.Need-read-loads-requires
 read-loads-requires c κs =
     let start = c .before .before .before .before .before .before .before .before .before .before .before .before .before .before in
     let a = start .args in (
-      section-counts (a .top .now) (a .bottom .now) (a .shape) (length (a .columns .now)) (length (a .work .now))
-          (start .pre) .0,
-      section-counts (a .top .now) (a .bottom .now) (a .shape) (length (a .columns .now)) (length (a .work .now))
-          (start .pre) .1,
+      start .pre .sound .counts .0,
+      start .pre .sound .counts .1,
       refl,
     )
 
@@ -107,15 +103,15 @@ returns-3 c =
     let at-if1 = at-if2 .before in
     let start = at-if1 .before .before .before .before .before in
     let a = start .args in
-    placed-solved (a .top .now) (a .bottom .now) (a .shape) (a .columns .now) (a .work .now) (start .pre) (at-if1 .if1 .left)
+    placed-worked (a .top .now) (a .bottom .now) (a .shape) (a .columns .now) (a .work .now) (start .pre) (at-if1 .if1 .left)
     (at-if2 .if2 .left) _ _ (at-make-plan .make-plan .result) (at-make-plan .make-plan .ensures)
     (rules-kept 0 1 (terminalsIn (a .top .now)) (terminalsIn (a .bottom .now)) _ _ (omega arith) (start .pre .sound .counts .0)
     (at-read-rules .read-rules .ensures .rules) (at-read-rules2 .read-rules2 .ensures))
     (at-read-rules2 .read-rules2 .ensures .rules)
     (loads-sheet (a .shape .columns) (a .top .now) (a .bottom .now) _ _ (at-read-loads .read-loads .ensures)) _ _ _ (at-place .place .ensures)
 
-pub solve-spec : {M : Type 1} → statement M
-solve-spec =
+pub find-spec : {M : Type 1} → statement M
+find-spec =
     tie.close
     (tie.spec
     returns

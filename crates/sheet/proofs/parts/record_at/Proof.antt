@@ -19,7 +19,7 @@ returns : tie.Need-returns
 returns c =
     let a = c .before .before .before .args in
     c .record-in .ensures
-    ∙ ap (λ (part : List ℕ). entryIn part (a .place)) (c .before .section .ensures)
+    ∙ ap (λ (part : List ℕ). entryIn part (a .place)) (c .before .section .ensures .bytes)
     ∙ entry-section (a .s .now) (a .side) (a .place)
 
 pub record-at-spec : {M : Type 1} → statement M

@@ -22,7 +22,7 @@ loop-holds c =
     let a = start .args in (
       omega arith,
       sym (zero-mul (a .grid .stride)),
-      filled-none (a .rules .now) (a .loads .now) (a .bound) (a .grid) 0 0 _ _
+      filled-none (a .rules .now) (a .loads .now) (a .bound) (a .grid) 0 0 _ (a .work .now)
           (nothing-earlier (a .rules .now) (a .loads .now) (a .bound) (a .grid) _),
     )
 
@@ -62,8 +62,7 @@ loop-again c =
     let l = at-loop .loop in (
       omega (arith, at-loop-test .loop-test .taken),
       ap (λ (k : ℕ). k + a .grid .stride) (l .inv .1) ∙ row-next (a .grid) (l .i),
-      filled-then (a .rules .now) (a .loads .now) (a .bound) (a .grid) (l .i) 0 (l .i + 1) 0 (l .at) (l .at + a .grid .stride)
-          (a .work .now) (l .work) _ (l .inv .2) (c .before .before .fill-row .ensures) (omega arith),
+      filled-then (l .inv .2) (c .before .before .fill-row .ensures) (omega arith),
     )
 
 same-length : tie.Need-same-length Inv-loop μ-loop

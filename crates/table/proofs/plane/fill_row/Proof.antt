@@ -80,8 +80,7 @@ loop-again c =
     let l = at-loop .loop in (
       omega (arith, at-loop-test .loop-test .taken),
       ap (λ (k : ℕ). k + a .grid .size) (l .inv .1) ∙ plane-next (a .grid) (a .i) (l .j),
-      filled-then (a .rules .now) (a .loads .now) (a .bound) (a .grid) (a .i) (l .j) (a .i) (l .j + 1) (l .here) (l .here + a .grid .size)
-          (a .work .now) (l .work) _ (l .inv .2) (c .before .before .fill-plane .ensures) (omega arith),
+      filled-then (l .inv .2) (c .before .before .fill-plane .ensures) (omega arith),
     )
 
 same-length : tie.Need-same-length Inv-loop μ-loop

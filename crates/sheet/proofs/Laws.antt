@@ -1,0 +1,79 @@
+-- What the layers above may use of the sheet layer: laws of its definitions that say nothing of where a byte stands.
+-- Assumes nothing.
+use Prim.Native.Nat.{ℕ, zero, suc, _-_, _≤_}
+use mathlib.Core.Path.{_≡_, refl, sym, _∙_, ap}
+use mathlib.Core.List.{List, [], _∷_, _++_}
+use native.Mathlib.Omega.{arith}
+use lib.ListN.{length}
+use Rattle.channel.specs.Sheet.{Terminal, Sheet}
+use Rattle.sheet.specs.declared.Checked.the-variants.{Sound}
+use Rattle.sheet.specs.declared.Cursor.{Cursor}
+use Rattle.sheet.specs.declared.Entry.the-variants.{Nothing}
+use Rattle.sheet.specs.declared.Layout.{Layout}
+use Rattle.sheet.specs.declared.Opened.the-variants.{Sound as Laid}
+use Rattle.sheet.specs.declared.Side.{Side}
+use Rattle.sheet.specs.declared.Side.the-variants.{Top, Bottom}
+use Rattle.sheet.specs.Format.{ofSide}
+use Rattle.sheet.specs.Check.{checkOf}
+use Rattle.sheet.specs.Read.{sheetOf, read}
+use Rattle.sheet.specs.Read.Read.{sound}
+use Rattle.sheet.specs.Parts.{shape, shapeAs, shapeOf, layoutOf, openedOf, bytesOf, sectionOf, nth, entryOf, terminalsIn, entryIn}
+use Rattle.sheet.specs.Walk.{visits, walk, stepAs, stepOf}
+use Rattle.sheet.proofs.Sections.{opened-sound, layout-shape, sound-section}
+-- a sheet that reads is sound; the check leaves just the sheets that read, and what it refuses neither reads nor opens
+pub use Rattle.sheet.proofs.Sounds.{read-sound, read-checked, read-refused}
+pub use Rattle.sheet.proofs.Sections.{sound-read, opened-refused}
+-- a section's terminals are those of its side; and places count from 1
+pub use Rattle.sheet.proofs.Sections.{section-terminals, entry-at}
+
+-- the shape of a sheet that reads
+pub shape-read : (b : List ℕ) (s : Sheet) → read b ≡ sound s → shapeOf b ≡ shape (s .columns) (length (s .top)) (length (s .bottom))
+unfolding shapeOf
+shape-read b s h = ap shapeAs h
+
+-- what a sheet that opens says: it reads, its shape is that of the sheet, and its parts hold the terminals of the sides
+pub record Opens (b : List ℕ) (n : Layout) : Type 0 where
+  pub checks : checkOf b ≡ Sound
+  pub reads : read b ≡ sound (sheetOf b)
+  pub shape : n .shape ≡ shape (sheetOf b .columns) (length (sheetOf b .top)) (length (sheetOf b .bottom))
+  pub top : terminalsIn (bytesOf b (n .top)) ≡ sheetOf b .top
+  pub bottom : terminalsIn (bytesOf b (n .bottom)) ≡ sheetOf b .bottom
+
+pub opens : (b : List ℕ) (n : Layout) → openedOf b ≡ Laid n → Opens b n
+opens b n h =
+    let (checks, laid) = opened-sound b n h in
+    let reads = sound-read b checks in
+    let section : (side : Side) → bytesOf b (ofSide (n .top) (n .bottom) side) ≡ sectionOf b side
+    = λ side. sound-section b checks side _ (ap (λ (m : Layout). ofSide (m .top) (m .bottom) side) laid) in
+    record {
+      checks = checks;
+      reads = reads;
+      shape = ap (λ (m : Layout). m .shape) laid ∙ layout-shape b checks ∙ shape-read b (sheetOf b) reads;
+      top = ap terminalsIn (section Top) ∙ section-terminals b (sheetOf b) reads Top;
+      bottom = ap terminalsIn (section Bottom) ∙ section-terminals b (sheetOf b) reads Bottom;
+    }
+
+-- the entry at a place of a section is that of its terminals
+pub entry-in : (part : List ℕ) (place : ℕ) → entryIn part place ≡ entryOf (terminalsIn part) place
+unfolding entryIn
+entry-in part place = refl
+
+-- and there is one at each of its places
+nth-there : (ts : List Terminal) (k : ℕ) → nth ts k ≡ Nothing → length ts ≤ k
+nth-there [] k h = omega arith
+nth-there (t ∷ ts) zero h = let z : _≡_ {A = ℕ} 0 1 = cc in absurd (omega arith)
+nth-there (t ∷ ts) (suc k) h = omega (arith, nth-there ts k h)
+
+pub entry-there : (part : List ℕ) (place : ℕ) → 1 ≤ place → place ≤ length (terminalsIn part) → entryIn part place ≡ Nothing → ⊥
+entry-there part zero p l h = omega arith
+entry-there part (suc k) p l h = omega (arith, nth-there (terminalsIn part) k (sym (entry-in part (suc k)) ∙ h))
+
+-- the walk goes through the terminals of the top, then through those of the bottom
+pub walk-of : (s : Sheet) → walk s ≡ visits Top 1 (s .top) ++ visits Bottom 1 (s .bottom)
+unfolding walk
+walk-of s = refl
+
+-- and a step goes by what the bytes read as
+pub step-of : (b : List ℕ) (c : Cursor) → stepOf b c ≡ stepAs (c .passed) (read b)
+unfolding stepOf
+step-of b c = refl
