@@ -10,30 +10,32 @@ use Rattle.sheet.specs.Check.{laidOut, trailerCheck, formOf, terminalCheck, che
 use Rattle.sheet.specs.Read.{sheetOf, read}
 use Rattle.sheet.specs.Parts.{shapeOf}
 use Rattle.measure.specs.Answer.{allAllowed, distancesKept, listMeasured, sheetMeasured, measuredOf}
-use Rattle.starred.specs.Table.{searched, Starred}
+use Rattle.search.specs.Answer.{answerIn, searchedOf, columnsAfter}
+use Rattle.starred.specs.Table.{Starred}
 
 pub starred : Starred
 unfolding fits topColumns bottomColumns assignment? crosses netsOf columnDensity density word columnsOf words bestOf best
     little terminalAt terminalsFrom trailerOf hasMark laidOut trailerCheck formOf terminalCheck checkOf sheetOf read shapeOf
-    allAllowed distancesKept listMeasured sheetMeasured measuredOf searched
+    allAllowed distancesKept listMeasured sheetMeasured measuredOf answerIn searchedOf columnsAfter
 starred =
     record {
       A-length = refl;
       A-trailer = refl;
-      A-3 = refl;
+      A-3 = (refl, refl, refl);
       A-word = refl;
       rival-word = refl;
       rival-density = (refl, refl);
-      A-2 = refl;
-      A-4 = refl;
-      one-and-one = refl;
-      no-terminals = refl;
-      no-terminals-cells = refl;
-      no-room = refl;
-      empty-set = refl;
-      range-2 = refl;
-      range-3 = refl;
-      three-pins = refl;
+      A-2 = (refl, refl, refl);
+      A-4 = (refl, refl, refl);
+      one-and-one = (refl, refl, refl);
+      no-terminals = (refl, refl, refl);
+      three-cells = (refl, refl, refl);
+      cells-needed = refl;
+      no-room = (refl, refl, refl);
+      empty-set = (refl, refl, refl);
+      range-2 = (refl, refl, refl);
+      range-3 = (refl, refl, refl);
+      three-pins = (refl, refl, refl);
       measured-2 = (refl, refl);
       measured-1 = (refl, refl);
       measured-14 = (refl, refl);

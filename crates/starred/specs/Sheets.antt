@@ -1,6 +1,6 @@
 -- The bytes of the sheets with known results (document 01, "The sheet" and "Sheets with known results").
 -- Assumes nothing.
-use Prim.Native.Nat.{ℕ, zero, suc, _*_, _-_, _/_, _%_, _^_}
+use Prim.Native.Nat.{ℕ, zero, suc, _-_, _/_, _%_, _^_}
 use mathlib.Core.List.{List, [], _∷_, _++_}
 use lib.ListN.{length}
 
@@ -18,9 +18,9 @@ abbrev pub first : ℕ → ℕ → List ℕ
 first net set = later net 0 0 set
 
 -- "Trailer: top section's offset (2), top terminals p (2), bottom section's offset (2), bottom terminals q (2), length L (2),
--- and the last two bytes must be the letters CP"; the top section stands first
-abbrev pub trailer : ℕ → ℕ → ℕ → List ℕ
-trailer l p q = bytes 2 0 ++ bytes 2 p ++ bytes 2 (12 * p) ++ bytes 2 q ++ bytes 2 l ++ 67 ∷ 80 ∷ []
+-- and the last two bytes must be the letters CP"; the top section stands first, and the bottom one behind it
+abbrev pub trailer : ℕ → ℕ → ℕ → ℕ → List ℕ
+trailer l p behind q = bytes 2 0 ++ bytes 2 p ++ bytes 2 behind ++ bytes 2 q ++ bytes 2 l ++ 67 ∷ 80 ∷ []
 
 -- the records of one side, one behind the other
 abbrev pub section : List (List ℕ) → List ℕ
@@ -29,7 +29,8 @@ section (r ∷ rs) = r ++ section rs
 
 -- a sheet of length l with these records
 abbrev pub sheet : ℕ → List (List ℕ) → List (List ℕ) → List ℕ
-sheet l top bottom = section top ++ section bottom ++ trailer l (length top) (length bottom)
+sheet l top bottom =
+    section top ++ section bottom ++ trailer l (length top) (length (section top)) (length bottom)
 
 -- a full set: every column from 1 to l
 abbrev pub full : ℕ → ℕ

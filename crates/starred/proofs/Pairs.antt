@@ -1,0 +1,93 @@
+-- Sheet A at four lengths makes a loosened and a lengthened pair.
+-- Assumes nothing.
+use Prim.Native.Nat.{ℕ, zero, suc, _≤_}
+use mathlib.Core.Path.{_≡_, refl, sym, _∙_}
+use mathlib.Core.Bool.{true, false, true≢false}
+use native.Mathlib.Omega.{arith}
+use Rattle.channel.specs.Sheet.{Terminal}
+use Rattle.channel.specs.Assignment.{allows, fits}
+use Rattle.channel.specs.Density.{crosses, netsOf, columnDensity, density}
+use Rattle.channel.specs.Word.{word, columnsOf, words}
+use Rattle.channel.specs.Best.{bestOf, best}
+use Rattle.channel.specs.Pairs.{Looser, BothFree}
+use Rattle.channel.proofs.Sets.{allows-below}
+use Rattle.sheet.specs.Format.{little, terminalAt, terminalsFrom, trailerOf, hasMark}
+use Rattle.sheet.specs.Check.{laidOut, trailerCheck, formOf, terminalCheck, checkOf}
+use Rattle.sheet.specs.Read.{sheetOf, read}
+use Rattle.search.specs.Answer.{answerIn, searchedOf, columnsAfter}
+use Rattle.starred.specs.Sheets.{full}
+use Rattle.starred.specs.Table.{Paired}
+
+-- what the set {1, 2} allows, {1, 2, 3} does
+wider : (c : ℕ) → allows (full 2) c ≡ true → allows (full 3) c ≡ true
+wider zero h = h
+wider (suc zero) h = refl
+wider (suc (suc zero)) h = refl
+wider (suc (suc (suc c))) h = absurd (true≢false (sym h ∙ allows-below (full 2) 2 (suc (suc (suc c))) (omega arith) (omega arith)))
+
+-- full sets allow every column of their channel
+full-4 : (c : ℕ) → 1 ≤ c → c ≤ 4 → allows (full 4) c ≡ true
+full-4 zero h g = absurd (omega arith)
+full-4 (suc zero) h g = refl
+full-4 (suc (suc zero)) h g = refl
+full-4 (suc (suc (suc zero))) h g = refl
+full-4 (suc (suc (suc (suc zero)))) h g = refl
+full-4 (suc (suc (suc (suc (suc c))))) h g = absurd (omega arith)
+
+full-5 : (c : ℕ) → 1 ≤ c → c ≤ 5 → allows (full 5) c ≡ true
+full-5 zero h g = absurd (omega arith)
+full-5 (suc zero) h g = refl
+full-5 (suc (suc zero)) h g = refl
+full-5 (suc (suc (suc zero))) h g = refl
+full-5 (suc (suc (suc (suc zero)))) h g = refl
+full-5 (suc (suc (suc (suc (suc zero))))) h g = refl
+full-5 (suc (suc (suc (suc (suc (suc c)))))) h g = absurd (omega arith)
+
+-- a terminal of sheet A, with a full set of l columns: the first of a side, and the second
+abbrev first : ℕ → ℕ → Terminal
+first n l = record { net = n; least = 0; greatest = 0; allowed = full l }
+
+abbrev second : ℕ → ℕ → Terminal
+second n l = record { net = n; least = 1; greatest = 255; allowed = full l }
+
+first-looser : (n : ℕ) → Looser true (first n 2) (first n 3)
+first-looser n = record { net = refl; allowed = wider; distances = tt }
+
+second-looser : (n : ℕ) → Looser false (second n 2) (second n 3)
+second-looser n = record { net = refl; allowed = wider; distances = (omega arith, omega arith) }
+
+first-free : (n : ℕ) → BothFree 4 5 true (first n 4) (first n 5)
+first-free n = record { net = refl; first = record { allowed = full-4; distances = tt }; second = record { allowed = full-5; distances = tt } }
+
+second-free : (n : ℕ) → BothFree 4 5 false (second n 4) (second n 5)
+second-free n =
+    record {
+      net = refl;
+      first = record { allowed = full-4; distances = (refl, refl) };
+      second = record { allowed = full-5; distances = (refl, refl) };
+    }
+
+pub paired : Paired
+unfolding fits crosses netsOf columnDensity density word columnsOf words bestOf best little terminalAt terminalsFrom trailerOf
+    hasMark laidOut trailerCheck formOf terminalCheck checkOf sheetOf read answerIn searchedOf columnsAfter
+paired =
+    record {
+      A-2-reads = refl;
+      A-3-reads = refl;
+      loosened =
+          record {
+            columns = omega arith;
+            top = (first-looser 1, (second-looser 2, tt));
+            bottom = (first-looser 2, (second-looser 1, tt));
+          };
+      A-4-reads = refl;
+      A-5-reads = refl;
+      lengthened =
+          record {
+            columns = omega arith;
+            room = omega arith;
+            top = (first-free 1, (second-free 2, tt));
+            bottom = (first-free 2, (second-free 1, tt));
+          };
+      A-5 = (refl, refl, refl);
+    }
