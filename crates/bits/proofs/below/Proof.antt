@@ -14,14 +14,8 @@ returns c = λ n h. bit-zero n ∙ sym (le-ltb n (c .before .args .k) (omega ari
 returns-2 : tie.Need-returns-2
 returns-2 c = λ n h. bit-full n h ∙ sym (lt-ltb n (c .before .before .args .k) (omega arith))
 
-sub-result : tie.Need-sub-result
-sub-result c = search needs
-
-shr-result : tie.Need-shr-result
-shr-result c = search needs
-
 returns-3 : tie.Need-returns-3
 returns-3 c = λ n h. bit-below (c .before .before .args .k) n (omega arith)
 
 pub below-spec : {M : Type 1} → statement M
-below-spec = tie.close (tie.spec returns returns-2 sub-result shr-result returns-3)
+below-spec = tie.close (tie.spec returns returns-2 (λ c. search needs) (λ c. search needs) returns-3)

@@ -10,12 +10,9 @@ use Rattle.bits.proofs.bit.Tie as tie
 returns : tie.Need-returns
 returns c = sym (bit-high (c .before .args .w) 64 (c .before .args .k) (c .before .fits .w .fits) (c .if1 .taken))
 
-shr-result : tie.Need-shr-result
-shr-result c = search needs
-
 returns-2 : tie.Need-returns-2
 unfolding bitOf
 returns-2 c = search needs
 
 pub bit-spec : {M : Type 1} → statement M
-bit-spec = tie.close (tie.spec returns shr-result returns-2)
+bit-spec = tie.close (tie.spec returns (λ c. search needs) returns-2)

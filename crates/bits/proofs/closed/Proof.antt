@@ -19,24 +19,6 @@ cast-end c = omega (arith, leading-le 64 (c .args .by))
 sub-end : tie.Need-sub-end
 sub-end c = leading-le 64 (c .args .by)
 
-from-requires : tie.Need-from-requires
-from-requires c κs = search needs
-
-below-requires : tie.Need-below-requires
-below-requires c κs = search needs
-
-both-requires : tie.Need-both-requires
-both-requires c κs = search needs
-
-sub-spread : tie.Need-sub-spread
-sub-spread c = search needs
-
-spread-requires : tie.Need-spread-requires
-spread-requires c κs = search needs
-
-shl-result : tie.Need-shl-result
-shl-result c = search needs
-
 returns : tie.Need-returns
 returns c = λ n h.
     let both = c .before .before in
@@ -50,13 +32,7 @@ returns c = λ n h.
     ap (λ (k : ℕ). bitOf k m) (c .before .if2 .taken) ∙ both .both .ensures m
     ∙ ap₂ (λ (a b : Bool). a && b) (from .from .ensures m l) (below .below .ensures m l))
 
-one-by-one-requires : tie.Need-one-by-one-requires
-one-by-one-requires c κs = search needs
-
-returns-2 : tie.Need-returns-2
-returns-2 c = search needs
-
 pub closed-spec : {M : Type 1} → statement M
 closed-spec =
     tie.close
-    (tie.spec cast-end sub-end from-requires below-requires both-requires sub-spread spread-requires shl-result returns one-by-one-requires returns-2)
+    (tie.spec cast-end sub-end (λ c κs. search needs) (λ c κs. search needs) (λ c κs. search needs) (λ c. search needs) (λ c κs. search needs) (λ c. search needs) returns (λ c κs. search needs) (λ c. search needs))

@@ -11,14 +11,8 @@ use Rattle.bits.proofs.from.Tie as tie
 returns : tie.Need-returns
 returns c = λ n h. bit-zero n ∙ sym (lt-leb (c .before .args .k) n (omega arith))
 
-shr-result : tie.Need-shr-result
-shr-result c = search needs
-
-shl-result : tie.Need-shl-result
-shl-result c = search needs
-
 returns-2 : tie.Need-returns-2
 returns-2 c = bit-from (c .before .args .k)
 
 pub from-spec : {M : Type 1} → statement M
-from-spec = tie.close (tie.spec returns shr-result shl-result returns-2)
+from-spec = tie.close (tie.spec returns (λ c. search needs) (λ c. search needs) returns-2)

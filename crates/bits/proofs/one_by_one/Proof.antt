@@ -23,9 +23,6 @@ abbrev μ-loop : tie.MeasureT-loop
 loop-holds : tie.Need-loop-holds Inv-loop μ-loop
 loop-holds c = λ n h. rw (bit-zero n)
 
-loop-less : tie.Need-loop-less Inv-loop μ-loop
-loop-less c = omega arith
-
 loop-again : tie.Need-loop-again Inv-loop μ-loop
 loop-again c =
     let l = c .before .before .loop in
@@ -40,4 +37,4 @@ returns c = λ n h.
     sym (l .inv n h ∙ ap (λ (k : ℕ). bitOf (l .found) n || stepped (l .moved) k n) (c .loop-test .left) ∙ rw (stepped-none (l .moved) n) (or-false (bitOf (l .found) n)))
 
 pub one-by-one-spec : {M : Type 1} → statement M
-one-by-one-spec = tie.close (tie.spec Inv-loop μ-loop loop-holds loop-less loop-again returns)
+one-by-one-spec = tie.close (tie.spec Inv-loop μ-loop loop-holds (λ c. omega arith) loop-again returns)

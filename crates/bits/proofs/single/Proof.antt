@@ -5,11 +5,8 @@ use borrow.Author.Needs.{needs}
 use Rattle.bits.proofs.single.Statement.{statement}
 use Rattle.bits.proofs.single.Tie as tie
 
-shl-result : tie.Need-shl-result
-shl-result c = search needs
-
 returns : tie.Need-returns
 returns c = bit-single (c .args .k)
 
 pub single-spec : {M : Type 1} → statement M
-single-spec = tie.close (tie.spec shl-result returns)
+single-spec = tie.close (tie.spec (λ c. search needs) returns)

@@ -17,28 +17,10 @@ abbrev μ-loop : tie.MeasureT-loop
 loop-holds : tie.Need-loop-holds Inv-loop μ-loop
 loop-holds c = (omega arith, omega arith, λ n h. covered-one (c .args .w) n)
 
-add-loop : tie.Need-add-loop Inv-loop μ-loop
-add-loop c = omega arith
-
-shl-found : tie.Need-shl-found Inv-loop μ-loop
-shl-found c = omega arith
-
-add-done : tie.Need-add-done Inv-loop μ-loop
-add-done c = omega arith
-
-loop-less : tie.Need-loop-less Inv-loop μ-loop
-loop-less c = omega arith
-
 loop-again : tie.Need-loop-again Inv-loop μ-loop
 loop-again c =
     let l = c .before .loop in
     (omega arith, omega arith, λ n h. spread-more (c .before .before .args .w) (l .found) (l .done) (l .done) n h (omega arith) (l .inv .2))
-
-sub-result : tie.Need-sub-result Inv-loop μ-loop
-sub-result c = omega arith
-
-shl-result : tie.Need-shl-result Inv-loop μ-loop
-shl-result c = omega arith
 
 returns : tie.Need-returns Inv-loop μ-loop
 returns c = λ n h.
@@ -48,4 +30,4 @@ returns c = λ n h.
 
 pub spread-spec : {M : Type 1} → statement M
 spread-spec =
-    tie.close (tie.spec Inv-loop μ-loop loop-holds add-loop shl-found add-done loop-less loop-again sub-result shl-result returns)
+    tie.close (tie.spec Inv-loop μ-loop loop-holds (λ c. omega arith) (λ c. omega arith) (λ c. omega arith) (λ c. omega arith) loop-again (λ c. omega arith) (λ c. omega arith) returns)

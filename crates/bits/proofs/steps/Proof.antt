@@ -8,21 +8,6 @@ use borrow.Author.Needs.{needs}
 use Rattle.bits.proofs.steps.Statement.{statement}
 use Rattle.bits.proofs.steps.Tie as tie
 
-lowest-requires : tie.Need-lowest-requires
-lowest-requires c κs = search needs
-
-from-requires : tie.Need-from-requires
-from-requires c κs = search needs
-
-lowest-requires-2 : tie.Need-lowest-requires-2
-lowest-requires-2 c κs = search needs
-
-add-from : tie.Need-add-from
-add-from c = search needs
-
-from-requires-2 : tie.Need-from-requires-2
-from-requires-2 c κs = search needs
-
 returns : tie.Need-returns
 returns c = λ n h.
     let test = c .before .before in
@@ -33,13 +18,7 @@ returns c = λ n h.
     ∙ stepped-open (args .w) (args .by) (low .result) (first .lowest .result) n h (low .ensures .1) (low .ensures .2)
     (λ m l. ap (λ (k : ℕ). bitOf k m) (test .if1 .taken) ∙ test .before .from .ensures m l)
 
-closed-requires : tie.Need-closed-requires
-closed-requires c κs = search needs
-
-returns-2 : tie.Need-returns-2
-returns-2 c = search needs
-
 pub steps-spec : {M : Type 1} → statement M
 steps-spec =
     tie.close
-    (tie.spec lowest-requires from-requires lowest-requires-2 add-from from-requires-2 returns closed-requires returns-2)
+    (tie.spec (λ c κs. search needs) (λ c κs. search needs) (λ c κs. search needs) (λ c. search needs) (λ c κs. search needs) returns (λ c κs. search needs) (λ c. search needs))

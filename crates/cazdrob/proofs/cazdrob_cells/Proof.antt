@@ -6,11 +6,8 @@ use Rattle.sheet.specs.declared.Shape.{Shape}
 use Rattle.cazdrob.proofs.cazdrob_cells.Statement.{statement}
 use Rattle.cazdrob.proofs.cazdrob_cells.Tie as tie
 
-shape-of-requires : tie.Need-shape-of-requires
-shape-of-requires c κs = search needs
-
 returns : tie.Need-returns
 returns c = ap (λ (n : Shape). n .cells) (c .shape-of .ensures)
 
 pub cazdrob-cells-spec : {M : Type 1} → statement M
-cazdrob-cells-spec = tie.close (tie.spec shape-of-requires returns)
+cazdrob-cells-spec = tie.close (tie.spec (λ c κs. search needs) returns)

@@ -6,21 +6,6 @@ use Rattle.cazdrob.specs.Host.{checkNumber}
 use Rattle.cazdrob.proofs.cazdrob_check.Statement.{statement}
 use Rattle.cazdrob.proofs.cazdrob_check.Tie as tie
 
-check-requires : tie.Need-check-requires
-check-requires c κs = search needs
-
-enum-told : tie.Need-enum-told
-enum-told c = search needs
-
-enum-known-checked : tie.Need-enum-known-checked
-enum-known-checked c = search needs
-
-number-of-requires : tie.Need-number-of-requires
-number-of-requires c κs = search needs
-
-wide-requires : tie.Need-wide-requires
-wide-requires c κs = search needs
-
 returns : tie.Need-returns
 returns c = ap checkNumber (sym (c .enum-told .given .1) ∙ c .before .before .check .ensures)
 
@@ -34,4 +19,4 @@ returns-2 c =
 pub cazdrob-check-spec : {M : Type 1} → statement M
 cazdrob-check-spec =
     tie.close
-    (tie.spec check-requires enum-told enum-known-checked number-of-requires wide-requires returns returns-2)
+    (tie.spec (λ c κs. search needs) (λ c. search needs) (λ c. search needs) (λ c κs. search needs) (λ c κs. search needs) returns returns-2)

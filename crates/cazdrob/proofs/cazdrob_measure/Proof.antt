@@ -6,18 +6,6 @@ use Rattle.measure.specs.Answer.{numberOf, densityOf}
 use Rattle.cazdrob.proofs.cazdrob_measure.Statement.{statement}
 use Rattle.cazdrob.proofs.cazdrob_measure.Tie as tie
 
-measure-requires : tie.Need-measure-requires
-measure-requires c κs = search needs
-
-density-of-requires : tie.Need-density-of-requires
-density-of-requires c κs = search needs
-
-number-of-requires : tie.Need-number-of-requires
-number-of-requires c κs = search needs
-
-wide-requires : tie.Need-wide-requires
-wide-requires c κs = search needs
-
 returns : tie.Need-returns
 returns c =
     let at-number = c .before in
@@ -29,4 +17,4 @@ returns c =
     }
 
 pub cazdrob-measure-spec : {M : Type 1} → statement M
-cazdrob-measure-spec = tie.close (tie.spec measure-requires density-of-requires number-of-requires wide-requires returns)
+cazdrob-measure-spec = tie.close (tie.spec (λ c κs. search needs) (λ c κs. search needs) (λ c κs. search needs) (λ c κs. search needs) returns)

@@ -13,15 +13,6 @@ use Rattle.measure.proofs.measure_list.Tie as tie
 slice-aggregate-tops : tie.Need-slice-aggregate-tops
 slice-aggregate-tops c = sym (length-take-le _ _ (omega arith))
 
-sub-bottoms : tie.Need-sub-bottoms
-sub-bottoms c = search needs
-
-part-bottoms-start : tie.Need-part-bottoms-start
-part-bottoms-start c = search needs
-
-part-bottoms-end : tie.Need-part-bottoms-end
-part-bottoms-end c = search needs
-
 all-allowed-requires : tie.Need-all-allowed-requires
 all-allowed-requires c κs = length-take-le _ _ (omega arith) ∙ c .before .before .before .before .before .pre .tops
 
@@ -31,9 +22,6 @@ returns c =
     let a = s .args in
     top-refused (a .l) (terminalsIn (a .top .now)) (terminalsIn (a .bottom .now)) (a .columns .now) (a .p) (s .pre .tops)
     (sym (c .before .all-allowed .ensures) ∙ not-true _ (c .if1 .taken))
-
-all-allowed-requires-2 : tie.Need-all-allowed-requires-2
-all-allowed-requires-2 c κs = search needs
 
 returns-2 : tie.Need-returns-2
 returns-2 c =
@@ -56,9 +44,6 @@ returns-3 c =
     (c .before .out-of-range .result)
     (c .before .out-of-range .ensures)
     (c .if3 .taken)
-
-list-density-requires : tie.Need-list-density-requires
-list-density-requires c κs = search needs
 
 returns-4 : tie.Need-returns-4
 returns-4 c =
@@ -83,14 +68,14 @@ measure-list-spec =
     tie.close
     (tie.spec
     slice-aggregate-tops
-    sub-bottoms
-    part-bottoms-start
-    part-bottoms-end
+    (λ c. search needs)
+    (λ c. search needs)
+    (λ c. search needs)
     all-allowed-requires
     returns
-    all-allowed-requires-2
+    (λ c κs. search needs)
     returns-2
     out-of-range-requires
     returns-3
-    list-density-requires
+    (λ c κs. search needs)
     returns-4)

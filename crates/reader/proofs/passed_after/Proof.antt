@@ -7,12 +7,6 @@ use Rattle.reader.specs.Reader.{passedAfter}
 use Rattle.reader.proofs.passed_after.Statement.{statement}
 use Rattle.reader.proofs.passed_after.Tie as tie
 
-enum-known-step : tie.Need-enum-known-step
-enum-known-step c = search needs
-
-enum-told : tie.Need-enum-told
-enum-told c = search needs
-
 returns : tie.Need-returns
 returns c = ap (λ (s : Step). passedAfter s (c .before .before .before .args .passed)) (sym (c .before .step .given .1))
 
@@ -20,4 +14,4 @@ returns-2 : tie.Need-returns-2
 returns-2 c = ap (λ (s : Step). passedAfter s (c .before .before .args .passed)) (sym (c .enum-told .given .1))
 
 pub passed-after-spec : {M : Type 1} → statement M
-passed-after-spec = tie.close (tie.spec enum-known-step enum-told returns returns-2)
+passed-after-spec = tie.close (tie.spec (λ c. search needs) (λ c. search needs) returns returns-2)

@@ -4,11 +4,8 @@ use borrow.Author.Needs.{needs}
 use Rattle.reader.proofs.step_at.Statement.{statement}
 use Rattle.reader.proofs.step_at.Tie as tie
 
-step-requires : tie.Need-step-requires
-step-requires c κs = search needs
-
 returns : tie.Need-returns
 returns c = c .step .ensures
 
 pub step-at-spec : {M : Type 1} → statement M
-step-at-spec = tie.close (tie.spec step-requires returns)
+step-at-spec = tie.close (tie.spec (λ c κs. search needs) returns)

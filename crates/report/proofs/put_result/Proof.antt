@@ -8,18 +8,6 @@ use borrow.Author.Needs.{needs}
 use Rattle.report.proofs.put_result.Statement.{statement}
 use Rattle.report.proofs.put_result.Tie as tie
 
-shape-of-requires : tie.Need-shape-of-requires
-shape-of-requires c κs = search needs
-
-slice-aggregate-put-field : tie.Need-slice-aggregate-put-field
-slice-aggregate-put-field c = search needs
-
-put-field-requires : tie.Need-put-field-requires
-put-field-requires c κs = search needs
-
-put-byte-requires : tie.Need-put-byte-requires
-put-byte-requires c κs = search needs
-
 slice-aggregate-put-lines : tie.Need-slice-aggregate-put-lines
 slice-aggregate-put-lines c =
     let at-shape-of = c .before .before .before .before .before .before .before .before .before .before in
@@ -38,9 +26,6 @@ put-lines-requires c κs =
     let newline = at-put-byte .put-byte .ensures in
     let name = at-put-field .put-field .ensures in
     rw (length-take-le _ _ pins) (omega (arith, newline .place, name .1, kept newline, kept (name .0)))
-
-same-length : tie.Need-same-length
-same-length c = search needs
 
 returns : tie.Need-returns
 returns c =
@@ -63,11 +48,11 @@ pub put-result-spec : {M : Type 1} → statement M
 put-result-spec =
     tie.close
     (tie.spec
-    shape-of-requires
-    slice-aggregate-put-field
-    put-field-requires
-    put-byte-requires
+    (λ c κs. search needs)
+    (λ c. search needs)
+    (λ c κs. search needs)
+    (λ c κs. search needs)
     slice-aggregate-put-lines
     put-lines-requires
-    same-length
+    (λ c. search needs)
     returns)

@@ -19,26 +19,11 @@ abbrev μ-loop : tie.MeasureT-loop
 loop-holds : tie.Need-loop-holds Inv-loop μ-loop
 loop-holds c = (omega arith, omega arith, refl, added-none (c .args .from) (c .args .counts .now))
 
-mul-counts : tie.Need-mul-counts Inv-loop μ-loop
-mul-counts c = omega arith
-
-slice-read-counts : tie.Need-slice-read-counts Inv-loop μ-loop
-slice-read-counts c = omega arith
-
 add-counts : tie.Need-add-counts Inv-loop μ-loop
 add-counts c =
     let a = c .before .before .before .args in
     let l = c .before .before .loop in
     omega (arith, added-next (a .from) (l .c) (a .counts .now) (l .counts) (l .inv .3) (l .inv .0), c .before .before .before .pre .2 (l .c))
-
-slice-write-counts : tie.Need-slice-write-counts Inv-loop μ-loop
-slice-write-counts c = omega arith
-
-add-c : tie.Need-add-c Inv-loop μ-loop
-add-c c = omega arith
-
-loop-less : tie.Need-loop-less Inv-loop μ-loop
-loop-less c = omega arith
 
 loop-again : tie.Need-loop-again Inv-loop μ-loop
 loop-again c =
@@ -67,12 +52,12 @@ add-span-spec =
     Inv-loop
     μ-loop
     loop-holds
-    mul-counts
-    slice-read-counts
+    (λ c. omega arith)
+    (λ c. omega arith)
     add-counts
-    slice-write-counts
-    add-c
-    loop-less
+    (λ c. omega arith)
+    (λ c. omega arith)
+    (λ c. omega arith)
     loop-again
     same-length
     returns)

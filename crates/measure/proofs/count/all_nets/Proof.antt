@@ -9,32 +9,11 @@ use Rattle.sheet.specs.Parts.{terminalsIn}
 use Rattle.measure.proofs.Sums.{nets-both}
 use Rattle.measure.proofs.count.all_nets.Tie as tie
 
-slice-relend-prefix-fill-nets : tie.Need-slice-relend-prefix-fill-nets
-slice-relend-prefix-fill-nets c = search needs
-
 slice-aggregate-fill-nets : tie.Need-slice-aggregate-fill-nets
 slice-aggregate-fill-nets c = sym (length-take-le _ _ (omega arith))
 
 fill-nets-requires : tie.Need-fill-nets-requires
 fill-nets-requires c κs = length-take-le _ _ (omega arith) ∙ c .before .before .before .before .pre .0
-
-mul-fill-nets : tie.Need-mul-fill-nets
-mul-fill-nets c = search needs
-
-sub-fill-nets : tie.Need-sub-fill-nets
-sub-fill-nets c = search needs
-
-part-fill-nets-start : tie.Need-part-fill-nets-start
-part-fill-nets-start c = search needs
-
-part-fill-nets-end : tie.Need-part-fill-nets-end
-part-fill-nets-end c = search needs
-
-fill-nets-requires-2 : tie.Need-fill-nets-requires-2
-fill-nets-requires-2 c κs = search needs
-
-same-length : tie.Need-same-length
-same-length c = search needs
 
 returns : tie.Need-returns
 returns c =
@@ -53,13 +32,13 @@ pub all-nets-spec : {M : Type 1} → statement M
 all-nets-spec =
     tie.close
     (tie.spec
-    slice-relend-prefix-fill-nets
+    (λ c. search needs)
     slice-aggregate-fill-nets
     fill-nets-requires
-    mul-fill-nets
-    sub-fill-nets
-    part-fill-nets-start
-    part-fill-nets-end
-    fill-nets-requires-2
-    same-length
+    (λ c. search needs)
+    (λ c. search needs)
+    (λ c. search needs)
+    (λ c. search needs)
+    (λ c κs. search needs)
+    (λ c. search needs)
     returns)

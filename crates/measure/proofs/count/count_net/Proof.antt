@@ -6,21 +6,6 @@ use Rattle.measure.specs.Inner.{pinsOf}
 use Rattle.measure.proofs.Sums.{counted, uncounted}
 use Rattle.measure.proofs.count.count_net.Tie as tie
 
-span-of-requires : tie.Need-span-of-requires
-span-of-requires c κs = search needs
-
-cast-add-span : tie.Need-cast-add-span
-cast-add-span c = search needs
-
-cast-add-span-2 : tie.Need-cast-add-span-2
-cast-add-span-2 c = search needs
-
-add-span-requires : tie.Need-add-span-requires
-add-span-requires c κs = search needs
-
-same-length : tie.Need-same-length
-same-length c = search needs
-
 returns : tie.Need-returns
 returns c =
     let a = c .before .before .before .before .before .before .before .before .before .before .before .before .args in
@@ -39,10 +24,10 @@ pub count-net-spec : {M : Type 1} → statement M
 count-net-spec =
     tie.close
     (tie.spec
-    span-of-requires
-    cast-add-span
-    cast-add-span-2
-    add-span-requires
-    same-length
+    (λ c κs. search needs)
+    (λ c. search needs)
+    (λ c. search needs)
+    (λ c κs. search needs)
+    (λ c. search needs)
     returns
     returns-2)

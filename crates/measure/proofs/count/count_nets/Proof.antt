@@ -23,35 +23,11 @@ loop-holds c =
     let s = c .before .before .before in
     (ap length (s .pre .2) ∙ length-replicate {A = ℕ} 256 0, counted-none (s .args .nets .now) (s .args .columns .now) 256 (s .args .counts .now) (s .pre .2))
 
-mul-occurs : tie.Need-mul-occurs Inv-loop μ-loop
-mul-occurs c = omega arith
-
-shared-slice-read-occurs : tie.Need-shared-slice-read-occurs Inv-loop μ-loop
-shared-slice-read-occurs c = omega arith
-
-add-occurs : tie.Need-add-occurs Inv-loop μ-loop
-add-occurs c = omega arith
-
-occurs-requires : tie.Need-occurs-requires Inv-loop μ-loop
-occurs-requires c κs = search needs
-
-mul-count-net : tie.Need-mul-count-net Inv-loop μ-loop
-mul-count-net c = omega arith
-
-shared-slice-read-count-net : tie.Need-shared-slice-read-count-net Inv-loop μ-loop
-shared-slice-read-count-net c = omega arith
-
 count-net-requires : tie.Need-count-net-requires Inv-loop μ-loop
 count-net-requires c κs =
     let s = c .before .before .before .before .before .before .before .before .before .before in
     let l = c .before .before .before .before .before .before .loop in
     (s .pre .0, l .inv .0, counts-small (s .args .nets .now) (s .args .columns .now) (l .i) (l .counts) (l .inv .1) (s .pre .1))
-
-add-i : tie.Need-add-i Inv-loop μ-loop
-add-i c = omega arith
-
-loop-less : tie.Need-loop-less Inv-loop μ-loop
-loop-less c = omega arith
 
 loop-again : tie.Need-loop-again Inv-loop μ-loop
 loop-again c =
@@ -89,15 +65,15 @@ count-nets-spec =
     Inv-loop
     μ-loop
     loop-holds
-    mul-occurs
-    shared-slice-read-occurs
-    add-occurs
-    occurs-requires
-    mul-count-net
-    shared-slice-read-count-net
+    (λ c. omega arith)
+    (λ c. omega arith)
+    (λ c. omega arith)
+    (λ c κs. search needs)
+    (λ c. omega arith)
+    (λ c. omega arith)
     count-net-requires
-    add-i
-    loop-less
+    (λ c. omega arith)
+    (λ c. omega arith)
     loop-again
     same-length
     returns)

@@ -20,21 +20,6 @@ abbrev μ-loop : tie.MeasureT-loop
 loop-holds : tie.Need-loop-holds Inv-loop μ-loop
 loop-holds c = (refl, refl)
 
-add-terminal-at : tie.Need-add-terminal-at Inv-loop μ-loop
-add-terminal-at c = omega arith
-
-terminal-at-requires : tie.Need-terminal-at-requires Inv-loop μ-loop
-terminal-at-requires c κs = search needs
-
-mul-nets : tie.Need-mul-nets Inv-loop μ-loop
-mul-nets c = omega arith
-
-slice-write-nets : tie.Need-slice-write-nets Inv-loop μ-loop
-slice-write-nets c = omega arith
-
-add-i : tie.Need-add-i Inv-loop μ-loop
-add-i c = omega arith
-
 loop-less : tie.Need-loop-less Inv-loop μ-loop
 loop-less c = simp length-set (omega arith)
 
@@ -64,11 +49,11 @@ fill-nets-spec =
     Inv-loop
     μ-loop
     loop-holds
-    add-terminal-at
-    terminal-at-requires
-    mul-nets
-    slice-write-nets
-    add-i
+    (λ c. omega arith)
+    (λ c κs. search needs)
+    (λ c. omega arith)
+    (λ c. omega arith)
+    (λ c. omega arith)
     loop-less
     loop-again
     same-length

@@ -15,9 +15,6 @@ use Rattle.measure.proofs.Sums.{length-nets}
 use Rattle.measure.proofs.Measures.{bytes-below, density-counted}
 use Rattle.measure.proofs.count.list_density.Tie as tie
 
-array-borrow-prefix-nets : tie.Need-array-borrow-prefix-nets
-array-borrow-prefix-nets c = search needs
-
 slice-aggregate-all-nets : tie.Need-slice-aggregate-all-nets
 slice-aggregate-all-nets c = sym (length-take-le _ _ (c .before .before .before .before .pre .few))
 
@@ -48,24 +45,12 @@ array-share-prefix-nets c = rw length-append (omega (arith, filled (c .before)))
 slice-aggregate-count-nets : tie.Need-slice-aggregate-count-nets
 slice-aggregate-count-nets c = let d = c .before .before in sym (ap length (held d) ∙ filled d)
 
-slice-aggregate-count-nets-2 : tie.Need-slice-aggregate-count-nets-2
-slice-aggregate-count-nets-2 c = search needs
-
 count-nets-requires : tie.Need-count-nets-requires
 count-nets-requires c κs =
     let d = c .before .before .before in
     let s = d .before .before .before .before .before in
     let size = ap length (held d) ∙ filled d in
     (size, subst (λ (k : ℕ). k ≤ 128) (sym size) (s .pre .few), refl)
-
-slice-aggregate-greatest : tie.Need-slice-aggregate-greatest
-slice-aggregate-greatest c = search needs
-
-greatest-requires : tie.Need-greatest-requires
-greatest-requires c κs = search needs
-
-wide-requires : tie.Need-wide-requires
-wide-requires c κs = search needs
 
 returns : tie.Need-returns
 returns c =
@@ -86,14 +71,14 @@ pub list-density-spec : {M : Type 1} → statement M
 list-density-spec =
     tie.close
     (tie.spec
-    array-borrow-prefix-nets
+    (λ c. search needs)
     slice-aggregate-all-nets
     all-nets-requires
     array-share-prefix-nets
     slice-aggregate-count-nets
-    slice-aggregate-count-nets-2
+    (λ c. search needs)
     count-nets-requires
-    slice-aggregate-greatest
-    greatest-requires
-    wide-requires
+    (λ c. search needs)
+    (λ c κs. search needs)
+    (λ c κs. search needs)
     returns)

@@ -29,30 +29,6 @@ loop-holds : tie.Need-loop-holds Inv-loop μ-loop
 unfolding leftmost rightmost
 loop-holds c = (omega arith, omega arith, refl, refl)
 
-mul-own : tie.Need-mul-own Inv-loop μ-loop
-mul-own c = omega arith
-
-shared-slice-read-own : tie.Need-shared-slice-read-own Inv-loop μ-loop
-shared-slice-read-own c = omega arith
-
-shared-slice-read-pick : tie.Need-shared-slice-read-pick Inv-loop μ-loop
-shared-slice-read-pick c = omega arith
-
-pick-requires : tie.Need-pick-requires Inv-loop μ-loop
-pick-requires c κs = search needs
-
-smaller-requires : tie.Need-smaller-requires Inv-loop μ-loop
-smaller-requires c κs = search needs
-
-shared-slice-read-pick-2 : tie.Need-shared-slice-read-pick-2 Inv-loop μ-loop
-shared-slice-read-pick-2 c = omega arith
-
-pick-requires-2 : tie.Need-pick-requires-2 Inv-loop μ-loop
-pick-requires-2 c κs = search needs
-
-larger-requires : tie.Need-larger-requires Inv-loop μ-loop
-larger-requires c κs = search needs
-
 -- a pin of the net picks each end anew, and any other keeps it
 left-kept : (own : Bool) (left column : ℕ) → left ≤ 255 → min left (cond own column 255) ≡ cond own (min left column) left
 left-kept true left column h = refl
@@ -61,12 +37,6 @@ left-kept false left column h = omega arith
 right-kept : (own : Bool) (right column : ℕ) → max right (cond own column 0) ≡ cond own (max right column) right
 right-kept true right column = refl
 right-kept false right column = omega arith
-
-add-i : tie.Need-add-i Inv-loop μ-loop
-add-i c = omega arith
-
-loop-less : tie.Need-loop-less Inv-loop μ-loop
-loop-less c = omega arith
 
 loop-again : tie.Need-loop-again Inv-loop μ-loop
 loop-again c =
@@ -106,15 +76,15 @@ span-of-spec =
     Inv-loop
     μ-loop
     loop-holds
-    mul-own
-    shared-slice-read-own
-    shared-slice-read-pick
-    pick-requires
-    smaller-requires
-    shared-slice-read-pick-2
-    pick-requires-2
-    larger-requires
-    add-i
-    loop-less
+    (λ c. omega arith)
+    (λ c. omega arith)
+    (λ c. omega arith)
+    (λ c κs. search needs)
+    (λ c κs. search needs)
+    (λ c. omega arith)
+    (λ c κs. search needs)
+    (λ c κs. search needs)
+    (λ c. omega arith)
+    (λ c. omega arith)
     loop-again
     returns)

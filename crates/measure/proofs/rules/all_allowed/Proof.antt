@@ -25,18 +25,6 @@ abbrev μ-loop : tie.MeasureT-loop
 loop-holds : tie.Need-loop-holds Inv-loop μ-loop
 loop-holds c = (omega arith, refl)
 
-add-terminal-at : tie.Need-add-terminal-at Inv-loop μ-loop
-add-terminal-at c = omega arith
-
-terminal-at-requires : tie.Need-terminal-at-requires Inv-loop μ-loop
-terminal-at-requires c κs = search needs
-
-shared-slice-read-allows : tie.Need-shared-slice-read-allows Inv-loop μ-loop
-shared-slice-read-allows c = omega arith
-
-allows-requires : tie.Need-allows-requires Inv-loop μ-loop
-allows-requires c κs = search needs
-
 -- what is said of the side at a place: the place's answer, then the places behind it
 turn : (d : tie.After-allows Inv-loop μ-loop)
     → let a = d .before .before .before .before .before .before .before .args in
@@ -56,12 +44,6 @@ turn d =
 returns : tie.Need-returns Inv-loop μ-loop
 returns c = sym (turn (c .before) ∙ rw (not-true (c .before .allows .result) (c .if1 .taken)))
 
-add-i : tie.Need-add-i Inv-loop μ-loop
-add-i c = omega arith
-
-loop-less : tie.Need-loop-less Inv-loop μ-loop
-loop-less c = omega arith
-
 loop-again : tie.Need-loop-again Inv-loop μ-loop
 loop-again c = (omega arith, turn (c .before) ∙ rw (not-false (c .before .allows .result) (c .if1 .left)))
 
@@ -76,12 +58,12 @@ all-allowed-spec =
     Inv-loop
     μ-loop
     loop-holds
-    add-terminal-at
-    terminal-at-requires
-    shared-slice-read-allows
-    allows-requires
+    (λ c. omega arith)
+    (λ c κs. search needs)
+    (λ c. omega arith)
+    (λ c κs. search needs)
     returns
-    add-i
-    loop-less
+    (λ c. omega arith)
+    (λ c. omega arith)
     loop-again
     returns-2)

@@ -36,12 +36,6 @@ abbrev μ-scan : tie.MeasureT-scan
 scan-holds : tie.Need-scan-holds Inv-loop μ-loop Inv-scan μ-scan
 scan-holds c = (omega arith, refl, refl)
 
-of-side-requires : tie.Need-of-side-requires Inv-loop μ-loop Inv-scan μ-scan
-of-side-requires c κs = search needs
-
-of-side-requires-2 : tie.Need-of-side-requires-2 Inv-loop μ-loop Inv-scan μ-scan
-of-side-requires-2 c κs = search needs
-
 -- 14 of each side of the list
 kept : tie.After-of-side2 Inv-loop μ-loop Inv-scan μ-scan → ℕ → Bool
 kept d =
@@ -65,24 +59,9 @@ same d =
 loop-holds : tie.Need-loop-holds Inv-loop μ-loop Inv-scan μ-scan
 loop-holds c = (omega arith, refl, kept-first (terminalsIn (c .before .of-side .result .now)) (c .of-side2 .result .now))
 
-add-terminal-at : tie.Need-add-terminal-at Inv-loop μ-loop Inv-scan μ-scan
-add-terminal-at c = omega arith
-
-terminal-at-requires : tie.Need-terminal-at-requires Inv-loop μ-loop Inv-scan μ-scan
-terminal-at-requires c κs = search needs
-
-sub-in-range : tie.Need-sub-in-range Inv-loop μ-loop Inv-scan μ-scan
-sub-in-range c = omega arith
-
-shared-slice-read-in-range : tie.Need-shared-slice-read-in-range Inv-loop μ-loop Inv-scan μ-scan
-shared-slice-read-in-range c = omega arith
-
 shared-slice-read-in-range-2 :
     tie.Need-shared-slice-read-in-range-2 Inv-loop μ-loop Inv-scan μ-scan
 shared-slice-read-in-range-2 c = omega arith
-
-in-range-requires : tie.Need-in-range-requires Inv-loop μ-loop Inv-scan μ-scan
-in-range-requires c κs = search needs
 
 -- what is said of the side at a place: the distance's answer, then the places behind it
 turn : (d : tie.After-in-range Inv-loop μ-loop Inv-scan μ-scan)
@@ -101,24 +80,12 @@ turn d =
     ∙ ap (λ (ok : Bool). ok && laterKept (drop (l .i + 1) (terminalsIn part)) (getD columns (l .i + 1 - 1) 0) (drop (l .i + 1) columns))
     (sym (d .in-range .ensures))
 
-add-i : tie.Need-add-i Inv-loop μ-loop Inv-scan μ-scan
-add-i c = omega arith
-
-loop-less : tie.Need-loop-less Inv-loop μ-loop Inv-scan μ-scan
-loop-less c = omega arith
-
 loop-again : tie.Need-loop-again Inv-loop μ-loop Inv-scan μ-scan
 loop-again c = (
   omega arith,
   c .before .before .before .before .before .before .loop .inv .1,
   turn (c .before) ∙ rw (not-false (c .before .in-range .result) (c .if1 .left)),
 )
-
-add-side : tie.Need-add-side Inv-loop μ-loop Inv-scan μ-scan
-add-side c = omega arith
-
-scan-less : tie.Need-scan-less Inv-loop μ-loop Inv-scan μ-scan
-scan-less c = omega arith
 
 scan-again : tie.Need-scan-again Inv-loop μ-loop Inv-scan μ-scan
 unfolding kept
@@ -160,20 +127,20 @@ out-of-range-spec =
     Inv-scan
     μ-scan
     scan-holds
-    of-side-requires
-    of-side-requires-2
+    (λ c κs. search needs)
+    (λ c κs. search needs)
     loop-holds
-    add-terminal-at
-    terminal-at-requires
-    sub-in-range
-    shared-slice-read-in-range
+    (λ c. omega arith)
+    (λ c κs. search needs)
+    (λ c. omega arith)
+    (λ c. omega arith)
     shared-slice-read-in-range-2
-    in-range-requires
-    add-i
-    loop-less
+    (λ c κs. search needs)
+    (λ c. omega arith)
+    (λ c. omega arith)
     loop-again
-    add-side
-    scan-less
+    (λ c. omega arith)
+    (λ c. omega arith)
     scan-again
     returns
     returns-2)

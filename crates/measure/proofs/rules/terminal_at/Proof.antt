@@ -6,15 +6,6 @@ use borrow.Author.Needs.{needs}
 use Rattle.measure.proofs.rules.terminal_at.Statement.{statement}
 use Rattle.measure.proofs.rules.terminal_at.Tie as tie
 
-record-in-requires : tie.Need-record-in-requires
-record-in-requires c κs = search needs
-
-enum-known-entry : tie.Need-enum-known-entry
-enum-known-entry c = search needs
-
-enum-told : tie.Need-enum-told
-enum-told c = search needs
-
 returns : tie.Need-returns
 returns c = ap recordOr (sym (c .before .entry .given .1) ∙ c .before .before .before .record-in .ensures)
 
@@ -23,4 +14,4 @@ returns-2 c = ap recordOr (sym (c .enum-told .given .1) ∙ c .before .before .r
 
 pub terminal-at-spec : {M : Type 1} → statement M
 terminal-at-spec =
-    tie.close (tie.spec record-in-requires enum-known-entry enum-told returns returns-2)
+    tie.close (tie.spec (λ c κs. search needs) (λ c. search needs) (λ c. search needs) returns returns-2)

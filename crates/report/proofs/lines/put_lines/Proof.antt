@@ -21,20 +21,8 @@ abbrev μ-loop : tie.MeasureT-loop
 loop-holds : tie.Need-loop-holds Inv-loop μ-loop
 loop-holds c = (wrote-nothing _ _, omega arith, omega arith)
 
-read-at-requires : tie.Need-read-at-requires Inv-loop μ-loop
-read-at-requires c κs = search needs
-
-shared-slice-read-put-step : tie.Need-shared-slice-read-put-step Inv-loop μ-loop
-shared-slice-read-put-step c = search needs
-
 put-step-requires : tie.Need-put-step-requires Inv-loop μ-loop
 put-step-requires c κs = let l = kept (c .before .before .before .before .loop .inv .0) in search needs
-
-add-k : tie.Need-add-k Inv-loop μ-loop
-add-k c = search needs
-
-loop-less : tie.Need-loop-less Inv-loop μ-loop
-loop-less c = search needs
 
 loop-again : tie.Need-loop-again Inv-loop μ-loop
 loop-again c =
@@ -61,11 +49,11 @@ put-lines-spec =
     Inv-loop
     μ-loop
     loop-holds
-    read-at-requires
-    shared-slice-read-put-step
+    (λ c κs. search needs)
+    (λ c. search needs)
     put-step-requires
-    add-k
-    loop-less
+    (λ c. search needs)
+    (λ c. search needs)
     loop-again
     same-length
     returns)

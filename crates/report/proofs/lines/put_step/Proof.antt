@@ -6,18 +6,6 @@ use borrow.Author.Needs.{needs}
 use Rattle.report.proofs.lines.put_step.Statement.{statement}
 use Rattle.report.proofs.lines.put_step.Tie as tie
 
-enum-known-step : tie.Need-enum-known-step
-enum-known-step c = search needs
-
-put-line-requires : tie.Need-put-line-requires
-put-line-requires c κs = search needs
-
-enum-told : tie.Need-enum-told
-enum-told c = search needs
-
-same-length : tie.Need-same-length
-same-length c = search needs
-
 returns : tie.Need-returns
 returns c = rw (c .before .before .before .before .before .step .given .1) (c .before .before .put-line .ensures)
 
@@ -25,4 +13,4 @@ returns-2 : tie.Need-returns-2
 returns-2 c = rw (c .enum-told .given .1) (wrote-nothing _ _, omega arith)
 
 pub put-step-spec : {M : Type 1} → statement M
-put-step-spec = tie.close (tie.spec enum-known-step put-line-requires enum-told same-length returns returns-2)
+put-step-spec = tie.close (tie.spec (λ c. search needs) (λ c κs. search needs) (λ c. search needs) (λ c. search needs) returns returns-2)

@@ -8,15 +8,6 @@ use borrow.Author.Needs.{needs}
 use Rattle.report.proofs.text.put_field.Statement.{statement}
 use Rattle.report.proofs.text.put_field.Tie as tie
 
-put-text-requires : tie.Need-put-text-requires
-put-text-requires c κs = search needs
-
-put-digits-requires : tie.Need-put-digits-requires
-put-digits-requires c κs = search needs
-
-same-length : tie.Need-same-length
-same-length c = search needs
-
 returns : tie.Need-returns
 unfolding numeral
 returns c =
@@ -25,4 +16,4 @@ returns c =
     (w, omega (arith, c .before .before .before .before .before .before .put-text .ensures .place, c .before .before .put-digits .ensures .place))
 
 pub put-field-spec : {M : Type 1} → statement M
-put-field-spec = tie.close (tie.spec put-text-requires put-digits-requires same-length returns)
+put-field-spec = tie.close (tie.spec (λ c κs. search needs) (λ c κs. search needs) (λ c. search needs) returns)
