@@ -1,28 +1,18 @@
 -- The lines of the program's text, in ASCII (document 01, "The program").
 -- Assumes nothing.
-use Prim.Native.Nat.{ℕ, zero, suc, _+_, _/_, _%_}
+use Prim.Native.Nat.{ℕ}
 use mathlib.Core.List.{List, [], _∷_, _++_}
-use mathlib.Core.Bool.{cond}
-use lib.Dec.{ltb}
 use Rattle.sheet.specs.declared.Side.{Side}
 use Rattle.sheet.specs.declared.Side.the-variants.{Top, Bottom}
 use Rattle.sheet.specs.declared.Visit.{Visit}
+use Rattle.text.specs.Digits as text
 
--- the decimal digits of n, the most significant first, k of them at most
-abbrev pub digits : ℕ → ℕ → List ℕ
-digits zero n = []
-digits (suc k) n = cond (ltb n 10) ((48 + n) ∷ []) (digits k (n / 10) ++ ((48 + n % 10) ∷ []))
-
--- a number: none that is printed has more than five digits, since nets have 16 bits
-unfoldable pub numeral : ℕ → List ℕ
-numeral n = digits 5 n
+-- a name and its number: none that is printed has more than five digits, since nets have 16 bits
+abbrev pub field : List ℕ → ℕ → List ℕ
+field name n = text.field 5 name n
 
 abbrev pub newline : List ℕ
 newline = 10 ∷ []
-
--- a name and its number
-abbrev pub field : List ℕ → ℕ → List ℕ
-field name n = name ++ numeral n
 
 -- the names: " ", " net ", " col ", "density ", "refused "
 abbrev pub spaceName : List ℕ

@@ -1,6 +1,5 @@
 // The text that the program prints, as functions on slices.
 mod lines;
-mod text;
 
 use lines::put_lines;
 use text::put_byte;
@@ -8,9 +7,13 @@ use text::put_field;
 ghost use Prim.Native.Nat.{_+_, _*_, _≤_};
 ghost use lib.ListN.{length, take};
 ghost use Rattle.sheet.specs.Parts.{shapeOf};
+ghost use Rattle.text.specs.Writing.{Wrote};
 ghost use Rattle.report.specs.Printed.{refusal, headed, Prints};
 ghost use Rattle.report.specs.Text.{lines};
-ghost use Rattle.report.specs.Writing.{Wrote, walkOf};
+ghost use Rattle.report.specs.Writing.{walkOf};
+
+// Numbers are printed with so many digits at most.
+pub const DIGITS: usize = 5;
 
 // Room for every text: the line of the density, and 128 lines of at most 28 bytes.
 pub const ROOM: usize = 4096;
@@ -38,7 +41,7 @@ fn put_refusal(out: &mut [u8], number: usize) -> usize
     ensures { λ r. ⌜ Wrote (now (out .entry)) 0 (refusal number) (now (out .exit)) r ⌝ }
     ensures { λ r. ⌜ r ≤ 14 ⌝ }
 {
-    let end = put_field(out, 0, b"refused ", number);
+    let end = put_field(out, 0, b"refused ", number, DIGITS);
     put_byte(out, end, b'\n')
 }
 
@@ -51,7 +54,7 @@ fn put_result(input: &[u8], density: u8, columns: &[u8], out: &mut [u8]) -> usiz
 {
     let shape = sheet::shape_of(input);
     let pins = shape.pins;
-    let end = put_field(out, 0, b"density ", density as usize);
+    let end = put_field(out, 0, b"density ", density as usize, DIGITS);
     let start = put_byte(out, end, b'\n');
     put_lines(input, &columns[..pins], out, start)
 }

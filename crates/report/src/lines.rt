@@ -1,14 +1,16 @@
 // The lines of an assignment's terminals.
-use crate::text::put_byte;
-use crate::text::put_field;
+use crate::DIGITS;
 use sheet::Side;
 use sheet::Step;
 use sheet::Visit;
+use text::put_byte;
+use text::put_field;
 ghost use mathlib.Core.Path.{_≡_};
 ghost use Prim.Native.Nat.{_+_, _*_, _≤_};
 ghost use lib.ListN.{length};
+ghost use Rattle.text.specs.Writing.{Wrote};
 ghost use Rattle.report.specs.Text.{letterOf, line, lines};
-ghost use Rattle.report.specs.Writing.{Wrote, stepLine, walkOf};
+ghost use Rattle.report.specs.Writing.{stepLine, walkOf};
 
 fn letter(side: Side) -> u8
     ensures { λ r. ⌜ r ≡ letterOf side ⌝ }
@@ -28,9 +30,9 @@ fn put_line(out: &mut [u8], at: usize, visit: Visit, column: u8) -> usize
     let side = visit.side;
     let terminal = visit.terminal;
     let a = put_byte(out, at, letter(side));
-    let b = put_field(out, a, b" ", visit.place);
-    let c = put_field(out, b, b" net ", terminal.net as usize);
-    let d = put_field(out, c, b" col ", column as usize);
+    let b = put_field(out, a, b" ", visit.place, DIGITS);
+    let c = put_field(out, b, b" net ", terminal.net as usize, DIGITS);
+    let d = put_field(out, c, b" col ", column as usize, DIGITS);
     put_byte(out, d, b'\n')
 }
 

@@ -1,7 +1,7 @@
 -- `report::put_refusal` meets its contract: the name and number, then the line's end.
 -- Assumes nothing.
 use native.Mathlib.Omega.{arith}
-use Rattle.report.proofs.Writes.{after}
+use Rattle.text.proofs.Writes.{after}
 use borrow.Author.Needs.{needs}
 use Rattle.report.proofs.put_refusal.Statement.{statement}
 use Rattle.report.proofs.put_refusal.Tie as tie

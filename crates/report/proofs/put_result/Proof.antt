@@ -3,7 +3,7 @@
 use mathlib.Core.Path.{sym}
 use native.Mathlib.Omega.{arith}
 use lib.Seq.{length-take-le}
-use Rattle.report.proofs.Writes.{after, kept}
+use Rattle.text.proofs.Writes.{after, kept}
 use borrow.Author.Needs.{needs}
 use Rattle.report.proofs.put_result.Statement.{statement}
 use Rattle.report.proofs.put_result.Tie as tie

@@ -5,7 +5,7 @@ use mathlib.Core.Path.{ap}
 use mathlib.Core.List.{[], _∷_}
 use native.Mathlib.Omega.{arith}
 use Rattle.report.specs.Text.{line}
-use Rattle.report.proofs.Writes.{after, same-text}
+use Rattle.text.proofs.Writes.{after, same-text}
 use borrow.Author.Needs.{needs}
 use Rattle.report.proofs.lines.put_line.Statement.{statement}
 use Rattle.report.proofs.lines.put_line.Tie as tie

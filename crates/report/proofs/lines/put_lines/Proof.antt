@@ -3,9 +3,10 @@
 use Prim.Native.Nat.{_+_, _-_, _*_, _≤_}
 use lib.ListN.{length, take}
 use native.Mathlib.Omega.{arith}
+use Rattle.text.specs.Writing.{Wrote}
 use Rattle.report.specs.Text.{lines}
-use Rattle.report.specs.Writing.{Wrote, walkOf}
-use Rattle.report.proofs.Writes.{wrote-nothing, after, kept, same-text}
+use Rattle.report.specs.Writing.{walkOf}
+use Rattle.text.proofs.Writes.{wrote-nothing, after, kept, same-text}
 use Rattle.report.proofs.Walked.{next-line, all-lines}
 use borrow.Author.Needs.{needs}
 use Rattle.report.proofs.lines.put_lines.Statement.{statement}

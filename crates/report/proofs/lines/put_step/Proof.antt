@@ -1,7 +1,7 @@
 -- `report::lines::put_step` meets its contract: a terminal's line, or nothing.
 -- Assumes nothing.
 use native.Mathlib.Omega.{arith}
-use Rattle.report.proofs.Writes.{wrote-nothing}
+use Rattle.text.proofs.Writes.{wrote-nothing}
 use borrow.Author.Needs.{needs}
 use Rattle.report.proofs.lines.put_step.Statement.{statement}
 use Rattle.report.proofs.lines.put_step.Tie as tie

@@ -5,15 +5,15 @@ use mathlib.Core.Path.{_∙_}
 use native.Mathlib.Omega.{arith}
 use borrow.Fn.Kinds.{In}
 use borrow.Fn.PlainCycle.{Measures, is, falls, and}
-use Rattle.report.proofs.Writes.{wrote-nothing, kept, wrote-digit, wrote-digits}
-use Rattle.report.proofs.Numbers.{digits-at-most}
-use Rattle.report.proofs.text.put_digits.Reads as put-digits
-use Rattle.report.proofs.text.put_digits.Kinds as put-digits-kinds
-use Rattle.report.proofs.text.+put_digits.Lts-put_digits as put-digits-lts
-use Rattle.report.proofs.text.digit.Reads as digit-reads
-use Rattle.report.proofs.text.put_byte.Reads as put-byte-reads
-use Rattle.report.proofs.text.+put_digits.{statement}
-use Rattle.report.proofs.text.+put_digits.Tie.{close}
+use Rattle.text.proofs.Writes.{wrote-nothing, kept, wrote-digit, wrote-digits}
+use Rattle.text.proofs.Numbers.{digits-at-most}
+use Rattle.text.proofs.put_digits.Reads as put-digits
+use Rattle.text.proofs.put_digits.Kinds as put-digits-kinds
+use Rattle.text.proofs.+put_digits.Lts-put_digits as put-digits-lts
+use Rattle.text.proofs.digit.Reads as digit-reads
+use Rattle.text.proofs.put_byte.Reads as put-byte-reads
+use Rattle.text.proofs.+put_digits.{statement}
+use Rattle.text.proofs.+put_digits.Tie.{close}
 
 abbrev μ-put-digits : Measures 1 put-digits-kinds.ps ℕ
 μ-put-digits κs a = a .1 .1 .1 .0

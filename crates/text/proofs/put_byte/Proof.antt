@@ -1,9 +1,9 @@
--- `report::text::put_byte` meets its contract: one store.
+-- `text::put_byte` meets its contract: one store.
 -- Assumes nothing.
-use Rattle.report.proofs.Writes.{wrote-byte}
+use Rattle.text.proofs.Writes.{wrote-byte}
 use borrow.Author.Needs.{needs}
-use Rattle.report.proofs.text.put_byte.Statement.{statement}
-use Rattle.report.proofs.text.put_byte.Tie as tie
+use Rattle.text.proofs.put_byte.Statement.{statement}
+use Rattle.text.proofs.put_byte.Tie as tie
 
 returns : tie.Need-returns
 returns c = wrote-byte _ _ _

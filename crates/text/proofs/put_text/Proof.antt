@@ -1,4 +1,4 @@
--- `report::text::put_text` meets its contract: after k turns the first k bytes of the text are written.
+-- `text::put_text` meets its contract: after k turns the first k bytes of the text are written.
 -- Assumes nothing.
 use Prim.Native.Nat.{ℕ, _+_, _-_, _≤_}
 use mathlib.Core.Path.{_≡_, sym, _∙_, ap}
@@ -6,11 +6,11 @@ use native.Mathlib.Omega.{arith}
 use native.Mathlib.Numerals.{add-one}
 use lib.ListN.{length, take}
 use lib.Seq.{take-suc, take-all}
-use Rattle.report.specs.Writing.{Wrote}
-use Rattle.report.proofs.Writes.{wrote-nothing, after, kept, same-text}
+use Rattle.text.specs.Writing.{Wrote}
+use Rattle.text.proofs.Writes.{wrote-nothing, after, kept, same-text}
 use borrow.Author.Needs.{needs}
-use Rattle.report.proofs.text.put_text.Statement.{statement}
-use Rattle.report.proofs.text.put_text.Tie as tie
+use Rattle.text.proofs.put_text.Statement.{statement}
+use Rattle.text.proofs.put_text.Tie as tie
 
 abbrev Inv-loop : tie.InvT-loop
 Inv-loop out₀ at text end₀ k₀ out end k =

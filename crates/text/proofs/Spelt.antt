@@ -1,4 +1,4 @@
--- A numeral spells its number: read digit by digit it gives the number back. So the definition of what is printed is the usual one.
+-- Digits spell their number: read one by one they give it back. So the definition of what is written is the usual one.
 -- Assumes nothing.
 use Prim.Native.Nat.{ℕ, zero, suc, _+_, _-_, _*_, _/_, _^_, _<_}
 use mathlib.Core.Path.{_≡_, refl}
@@ -7,7 +7,7 @@ use mathlib.Core.Bool.{Bool, true, false}
 use native.Mathlib.Omega.{arith}
 use native.Mathlib.Nat.{pow-zero, pow-suc}
 use lib.Dec.{ltb}
-use Rattle.report.specs.Text.{digits, numeral}
+use Rattle.text.specs.Digits.{digits}
 
 -- the number that digits spell, after those that spell n
 abbrev pub spelt : ℕ → List ℕ → ℕ
@@ -18,7 +18,8 @@ spelt-last : (n : ℕ) (ds : List ℕ) (d : ℕ) → spelt n (ds ++ (d ∷ [])) 
 spelt-last n [] d = refl
 spelt-last n (e ∷ ds) d = spelt-last (10 * n + (e - 48)) ds d
 
-digits-spell : (k n : ℕ) → n < 10 ^ k → spelt 0 (digits k n) ≡ n
+-- as many digits as the number needs, or more
+pub digits-spell : (k n : ℕ) → n < 10 ^ k → spelt 0 (digits k n) ≡ n
 digits-spell zero n h = let one : 10 ^ 0 ≡ 1 = pow-zero 10 in omega arith
 digits-spell (suc k) n h =
     let more : 10 ^ suc k ≡ 10 ^ k * 10 = pow-suc 10 k in
@@ -28,7 +29,3 @@ digits-spell (suc k) n h =
     by-size : spelt 0 (digits k (n / 10)) ≡ n / 10 → (b : Bool) → ltb n 10 ≡ b → spelt 0 (digits (suc k) n) ≡ n
     by-size front true e = rw e (omega arith)
     by-size front false e = rw (e, spelt-last, front) (omega arith)
-
-pub numeral-spells : (n : ℕ) → n < 100000 → spelt 0 (numeral n) ≡ n
-unfolding numeral
-numeral-spells n h = digits-spell 5 n h

@@ -1,10 +1,10 @@
-// Text written into a buffer from a place on; each function gives the place behind the text.
+// Words and numbers written into a buffer from a place on; each function gives the place behind the text.
 ghost use mathlib.Core.Path.{_≡_};
 ghost use mathlib.Core.List.{_∷_, []};
 ghost use Prim.Native.Nat.{_+_, _≤_, _<_};
 ghost use lib.ListN.{length};
-ghost use Rattle.report.specs.Text.{digits, field};
-ghost use Rattle.report.specs.Writing.{Wrote};
+ghost use Rattle.text.specs.Digits.{digits, field};
+ghost use Rattle.text.specs.Writing.{Wrote};
 
 pub fn put_byte(out: &mut [u8], at: usize, byte: u8) -> usize
     requires { ⌜ at < length (now out) ⌝ }
@@ -14,7 +14,7 @@ pub fn put_byte(out: &mut [u8], at: usize, byte: u8) -> usize
     at + 1
 }
 
-fn put_text(out: &mut [u8], at: usize, text: &[u8]) -> usize
+pub fn put_text(out: &mut [u8], at: usize, text: &[u8]) -> usize
     requires { ⌜ at + length (now text) ≤ length (now out) ⌝ }
     ensures { λ r. ⌜ Wrote (now (out .entry)) at (now (text .entry)) (now (out .exit)) r ⌝ }
 {
@@ -28,7 +28,7 @@ fn put_text(out: &mut [u8], at: usize, text: &[u8]) -> usize
 }
 
 // The decimal digits of a number, `most` of them at most.
-fn put_digits(out: &mut [u8], at: usize, n: usize, most: usize) -> usize
+pub fn put_digits(out: &mut [u8], at: usize, n: usize, most: usize) -> usize
     requires { ⌜ at + most ≤ length (now out) ⌝ }
     ensures { λ r. ⌜ Wrote (now (out .entry)) at (digits most n) (now (out .exit)) r ⌝ }
 {
@@ -49,12 +49,12 @@ fn digit(n: usize) -> u8
     48 + (n as u8)
 }
 
-// A name and its number.
-pub fn put_field(out: &mut [u8], at: usize, name: &[u8], n: usize) -> usize
-    requires { ⌜ at + length (now name) + 5 ≤ length (now out) ⌝ }
-    ensures { λ r. ⌜ Wrote (now (out .entry)) at (field (now (name .entry)) n) (now (out .exit)) r ⌝ }
-    ensures { λ r. ⌜ r ≤ at + length (now (name .entry)) + 5 ⌝ }
+// A name and its number, of `most` digits at most.
+pub fn put_field(out: &mut [u8], at: usize, name: &[u8], n: usize, most: usize) -> usize
+    requires { ⌜ at + length (now name) + most ≤ length (now out) ⌝ }
+    ensures { λ r. ⌜ Wrote (now (out .entry)) at (field most (now (name .entry)) n) (now (out .exit)) r ⌝ }
+    ensures { λ r. ⌜ r ≤ at + length (now (name .entry)) + most ⌝ }
 {
     let end = put_text(out, at, name);
-    put_digits(out, end, n, 5)
+    put_digits(out, end, n, most)
 }

@@ -7,9 +7,9 @@ use native.Mathlib.Omega.{arith}
 use native.Mathlib.Nat.{add-zero}
 use lib.ListN.{length, set, length-append}
 use lib.Seq.{sets, length-sets}
-use Rattle.report.specs.Text.{digits}
-use Rattle.report.specs.Writing.{Wrote}
-use Rattle.report.proofs.Numbers.{digits-one, digits-more}
+use Rattle.text.specs.Digits.{digits}
+use Rattle.text.specs.Writing.{Wrote}
+use Rattle.text.proofs.Numbers.{digits-one, digits-more}
 
 pub wrote-nothing : (old : List ℕ) (at : ℕ) → Wrote old at [] old at
 wrote-nothing old at = record { bytes = refl; place = sym (add-zero at) }
