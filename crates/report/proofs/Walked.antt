@@ -1,45 +1,57 @@
--- Laws of the lines: one terminal more, and what a step of the walk gives.
+-- Laws of the lines: one terminal more of a side, and one side behind the other.
 -- Assumes nothing.
-use Prim.Native.Nat.{ℕ, zero, suc, _+_, _≤_, _<_}
+use Prim.Native.Nat.{ℕ, zero, suc, _+_, _-_, _≤_, _<_}
 use mathlib.Core.Path.{_≡_, refl, sym, _∙_, ap}
 use mathlib.Core.List.{List, [], _∷_, _++_, append-nil, append-assoc}
 use native.Mathlib.Omega.{arith}
+use native.Mathlib.Nat.{add-zero}
 use native.Mathlib.Numerals.{add-one}
-use lib.ListN.{length, getD, take}
-use lib.Seq.{take-nil}
-use Rattle.sheet.specs.declared.Cursor.{Cursor}
-use Rattle.sheet.specs.declared.Step.{Step}
+use lib.ListN.{length, getD, take, drop}
+use lib.Seq.{take-nil, take-add, length-take-le}
+use Rattle.channel.specs.Sheet.{Terminal, Sheet}
+use Rattle.sheet.specs.declared.Entry.{Entry}
+use Rattle.sheet.specs.declared.Layout.{Layout}
+use Rattle.sheet.specs.declared.Opened.the-variants as opened
+use Rattle.sheet.specs.declared.Refusal.{Refusal}
+use Rattle.sheet.specs.declared.Shape.{Shape}
+use Rattle.sheet.specs.declared.Side.{Side}
+use Rattle.sheet.specs.declared.Side.the-variants.{Top, Bottom}
 use Rattle.sheet.specs.declared.Visit.{Visit}
-use Rattle.sheet.specs.Read.{Read, read}
+use Rattle.sheet.specs.Format.{recordOf}
+use Rattle.sheet.specs.Read.{Read, sheetOf, read}
 use Rattle.sheet.specs.Read.Read.{sound, refused}
-use Rattle.sheet.specs.Walk.{stepIn, stepAs, stepOf}
-use Rattle.sheet.proofs.Laws.{step-of}
+use Rattle.sheet.specs.Parts.{shapeOf, nth, entryOf, openedOf, bytesOf, terminalsIn, entryIn}
+use Rattle.sheet.specs.Walk.{visits}
+use Rattle.sheet.proofs.Laws.{read-checked, opened-refused, shape-read, entry-in, walk-of, Opens, opens}
 use Rattle.report.specs.Text.{line, lines}
-use Rattle.report.specs.Writing.{stepLine, walkAs, walkOf}
+use Rattle.report.specs.Writing.{entryLine, walkAs, walkOf}
 
-next : ℕ → Cursor
-next k = record { passed = k + 1 }
-
+-- a side's terminals from place m on, of which k have their lines, and the next
 one-more :
-    (vs : List Visit) (cs : List ℕ) (k : ℕ) (past : Cursor) → k < length cs
-    → lines (take k vs) (take k cs) ++ stepLine (stepIn vs k past) (getD cs k 0) ≡ lines (take (suc k) vs) (take (suc k) cs)
-one-more [] (c ∷ cs) zero past h = refl
-one-more [] (c ∷ cs) (suc k) past h = refl
-one-more (v ∷ vs) (c ∷ cs) zero past h = sym (append-nil (line v c))
-one-more (v ∷ vs) (c ∷ cs) (suc k) past h =
-    append-assoc (line v c) _ _ ∙ ap (λ (rest : List ℕ). line v c ++ rest) (one-more vs cs k past (omega arith))
+    (side : Side) (m : ℕ) (ts : List Terminal) (cs : List ℕ) (k : ℕ) → k < length cs
+    → lines (take k (visits side m ts)) (take k cs) ++ entryLine side (m + k) (nth ts k) (getD cs k 0)
+    ≡ lines (take (suc k) (visits side m ts)) (take (suc k) cs)
+one-more side m [] (c ∷ cs) zero h = refl
+one-more side m [] (c ∷ cs) (suc k) h = refl
+one-more side m (t ∷ ts) (c ∷ cs) zero h = rw add-zero (sym (append-nil _))
+one-more side m (t ∷ ts) (c ∷ cs) (suc k) h =
+    let place : m + suc k ≡ m + 1 + k = omega arith in
+    let rest : lines (take k (visits side (m + 1) ts)) (take k cs) ++ entryLine side (m + suc k) (nth ts k) (getD cs k 0)
+    ≡ lines (take (suc k) (visits side (m + 1) ts)) (take (suc k) cs)
+    = rw place (one-more side (m + 1) ts cs k (omega arith)) in
+    let first : Visit = record { side = side; place = m; terminal = recordOf t } in
+    append-assoc (line first c) _ _ ∙ ap (λ (more : List ℕ). line first c ++ more) rest
 
-step-walk : (k : ℕ) (r : Read) → stepAs k r ≡ stepIn (walkAs r) k (next k)
-unfolding next
-step-walk k (sound s) = refl
-step-walk k (refused n) = refl
-
--- the line of a step is the next one
+-- the line of the entry at place k + 1 of a section is the next one
 pub next-line :
-    (b cs : List ℕ) (k : ℕ) (step : Step) → step ≡ stepOf b (record { passed = k }) → k < length cs
-    → lines (take k (walkOf b)) (take k cs) ++ stepLine step (getD cs k 0) ≡ lines (take (k + 1) (walkOf b)) (take (k + 1) cs)
-unfolding walkOf
-next-line b cs k step e h = rw (e, step-of b (record { passed = k }), step-walk k (read b), add-one k) (one-more (walkAs (read b)) cs k (next k) h)
+    (side : Side) (part cs : List ℕ) (k : ℕ) (entry : Entry) → entry ≡ entryIn part (k + 1) → k < length cs
+    → lines (take k (visits side 1 (terminalsIn part))) (take k cs) ++ entryLine side (k + 1) entry (getD cs k 0)
+    ≡ lines (take (k + 1) (visits side 1 (terminalsIn part))) (take (k + 1) cs)
+next-line side part cs k entry e h =
+    let ts : List Terminal = terminalsIn part in
+    let found : entry ≡ nth ts k = e ∙ entry-in part (k + 1) ∙ ap (entryOf ts) (add-one k) in
+    let place : 1 + k ≡ suc k = omega arith in
+    rw (found, add-one k) (rw place at (one-more side 1 ts cs k h))
 
 -- no line is left once each column has one
 pub all-lines : (vs : List Visit) (cs : List ℕ) (k : ℕ) → length cs ≤ k → lines (take k vs) (take k cs) ≡ lines vs cs
@@ -48,3 +60,68 @@ all-lines (v ∷ vs) [] zero h = refl
 all-lines (v ∷ vs) [] (suc k) h = refl
 all-lines (v ∷ vs) (c ∷ cs) zero h = absurd (omega arith)
 all-lines (v ∷ vs) (c ∷ cs) (suc k) h = ap (λ (rest : List ℕ). line v c ++ rest) (all-lines vs cs k (omega arith))
+
+-- the lines of two lists one behind the other
+lines-append :
+    (vs us : List Visit) (cs ds : List ℕ) → length vs ≡ length cs → lines (vs ++ us) (cs ++ ds) ≡ lines vs cs ++ lines us ds
+lines-append [] us [] ds h = refl
+lines-append [] us (c ∷ cs) ds h = absurd (omega arith)
+lines-append (v ∷ vs) us [] ds h = absurd (omega arith)
+lines-append (v ∷ vs) us (c ∷ cs) ds h =
+    ap (λ (rest : List ℕ). line v c ++ rest) (lines-append vs us cs ds (omega arith)) ∙ sym (append-assoc (line v c) _ _)
+
+length-visits : (side : Side) (k : ℕ) (ts : List Terminal) → length (visits side k ts) ≡ length ts
+length-visits side k [] = refl
+length-visits side k (t ∷ ts) = ap suc (length-visits side (k + 1) ts)
+
+-- a sheet that is refused has no lines
+pub refused-lines : (b : List ℕ) (why : Refusal) (cs : List ℕ) → openedOf b ≡ opened.Refused why → [] ≡ lines (walkOf b) cs
+unfolding walkOf
+refused-lines b why cs e = by-read (read b) refl
+  where
+    by-read : (r : Read) → read b ≡ r → [] ≡ lines (walkAs r) cs
+    by-read (sound s) q =
+        let (checks, same) = read-checked b s q in
+        let refuses = opened-refused b why e in
+        let z : _≡_ {A = ℕ} 0 1 = cc in
+        absurd (omega arith)
+    by-read (refused k) q = refl
+
+-- a sheet that opened has its layout's shape
+pub opened-shape : (b : List ℕ) (layout : Layout) → openedOf b ≡ opened.Sound layout → layout .shape ≡ shapeOf b
+opened-shape b layout opening =
+    let laws = opens b layout opening in
+    laws .shape ∙ sym (shape-read b (sheetOf b) (laws .reads))
+
+-- and the lines of its two parts
+module _ (b : List ℕ) (layout : Layout) (opening : openedOf b ≡ opened.Sound layout) (columns : List ℕ)
+    (enough : layout .shape .pins ≤ length columns)
+  where
+    abbrev n : Shape
+    n = layout .shape
+
+    laws : Opens b layout
+    laws = opens b layout opening
+
+    p-count : n .top ≡ length (sheetOf b .top)
+    p-count = ap (λ (k : Shape). k .top) (laws .shape)
+
+    pub pins-count : n .top ≤ n .pins
+    pins-count = omega (arith, p-count, ap (λ (k : Shape). k .pins) (laws .shape))
+
+    pub side-lines :
+        (tops bottoms : List ℕ) → tops ≡ bytesOf b (layout .top) → bottoms ≡ bytesOf b (layout .bottom)
+        → lines (visits Top 1 (terminalsIn tops)) (take (n .top) columns)
+        ++ lines (visits Bottom 1 (terminalsIn bottoms)) (take (n .pins - n .top) (drop (n .top) columns))
+        ≡ lines (walkOf b) (take (n .pins) columns)
+    unfolding walkOf
+    side-lines tops bottoms first second =
+        let s : Sheet = sheetOf b in
+        let few : n .top ≤ length columns = omega (arith, pins-count) in
+        let whole : n .top + (n .pins - n .top) ≡ n .pins = omega (arith, pins-count) in
+        rw (ap terminalsIn first ∙ laws .top, ap terminalsIn second ∙ laws .bottom, laws .reads, walk-of s)
+        (sym
+        (lines-append (visits Top 1 (s .top)) (visits Bottom 1 (s .bottom)) (take (n .top) columns) _
+        (length-visits Top 1 (s .top) ∙ sym p-count ∙ sym (length-take-le (n .top) columns few)))
+        ∙ ap (lines (visits Top 1 (s .top) ++ visits Bottom 1 (s .bottom)))
+        (sym (take-add (n .top) (n .pins - n .top) columns) ∙ ap (λ (k : ℕ). take k columns) whole))

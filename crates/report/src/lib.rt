@@ -1,12 +1,16 @@
 // The text that the program prints, as functions on slices.
 mod lines;
 
-use lines::put_lines;
+use lines::put_side;
+use sheet::Layout;
+use sheet::Opened;
+use sheet::Side;
 use text::put_byte;
 use text::put_field;
+ghost use mathlib.Core.Path.{_≡_};
 ghost use Prim.Native.Nat.{_+_, _*_, _≤_};
 ghost use lib.ListN.{length, take};
-ghost use Rattle.sheet.specs.Parts.{shapeOf};
+ghost use Rattle.sheet.specs.Parts.{shapeOf, openedOf};
 ghost use Rattle.text.specs.Writing.{Wrote};
 ghost use Rattle.report.specs.Printed.{refusal, headed, Prints};
 ghost use Rattle.report.specs.Text.{lines};
@@ -52,9 +56,26 @@ fn put_result(input: &[u8], density: u8, columns: &[u8], out: &mut [u8]) -> usiz
     ensures { λ r. ⌜ Wrote (now (out .entry)) 0 (headed density (lines (walkOf (now (input .entry))) (take (shapeOf (now (input .entry)) .pins) (now (columns .entry))))) (now (out .exit)) r ⌝ }
     ensures { λ r. ⌜ r ≤ 14 + 28 * length (now (columns .entry)) ⌝ }
 {
-    let shape = sheet::shape_of(input);
-    let pins = shape.pins;
     let end = put_field(out, 0, b"density ", density as usize, DIGITS);
     let start = put_byte(out, end, b'\n');
-    put_lines(input, &columns[..pins], out, start)
+    let opened = sheet::open(input);
+    match opened {
+        Opened::Sound(layout) => put_sides(input, layout, columns, out, start),
+        Opened::Refused(_) => start,
+    }
+}
+
+// A line for each terminal of a sheet that opened with this layout, top then bottom.
+fn put_sides(input: &[u8], layout: Layout, columns: &[u8], out: &mut [u8], at: usize) -> usize
+    requires { ⌜ (openedOf (now input) ≡ Opened.Sound layout) × (layout .shape .pins ≤ length (now columns)) × (at + 28 * length (now columns) ≤ length (now out)) ⌝ }
+    ensures { λ r. ⌜ Wrote (now (out .entry)) at (lines (walkOf (now (input .entry))) (take (layout .shape .pins) (now (columns .entry)))) (now (out .exit)) r ⌝ }
+    ensures { λ r. ⌜ r ≤ at + 28 * length (now (columns .entry)) ⌝ }
+{
+    let shape = layout.shape;
+    let p = shape.top;
+    let pins = shape.pins;
+    let top = sheet::part_in(input, layout.top);
+    let bottom = sheet::part_in(input, layout.bottom);
+    let middle = put_side(Side::Top, top, &columns[..p], out, at);
+    put_side(Side::Bottom, bottom, &columns[p..pins], out, middle)
 }

@@ -1,16 +1,18 @@
 // The lines of an assignment's terminals.
 use crate::DIGITS;
+use sheet::Entry;
 use sheet::Side;
-use sheet::Step;
 use sheet::Visit;
 use text::put_byte;
 use text::put_field;
 ghost use mathlib.Core.Path.{_≡_};
 ghost use Prim.Native.Nat.{_+_, _*_, _≤_};
 ghost use lib.ListN.{length};
+ghost use Rattle.sheet.specs.Parts.{terminalsIn};
+ghost use Rattle.sheet.specs.Walk.{visits};
 ghost use Rattle.text.specs.Writing.{Wrote};
 ghost use Rattle.report.specs.Text.{letterOf, line, lines};
-ghost use Rattle.report.specs.Writing.{stepLine, walkOf};
+ghost use Rattle.report.specs.Writing.{entryLine};
 
 fn letter(side: Side) -> u8
     ensures { λ r. ⌜ r ≡ letterOf side ⌝ }
@@ -36,29 +38,38 @@ fn put_line(out: &mut [u8], at: usize, visit: Visit, column: u8) -> usize
     put_byte(out, d, b'\n')
 }
 
-// The line of a step's terminal; nothing at the end.
-fn put_step(out: &mut [u8], at: usize, step: Step, column: u8) -> usize
+// The line of a terminal that is found at a side and place; nothing where there is none.
+fn put_entry(out: &mut [u8], at: usize, side: Side, place: usize, entry: Entry, column: u8) -> usize
     requires { ⌜ at + 28 ≤ length (now out) ⌝ }
-    ensures { λ r. ⌜ Wrote (now (out .entry)) at (stepLine step column) (now (out .exit)) r ⌝ }
+    ensures { λ r. ⌜ Wrote (now (out .entry)) at (entryLine side place entry column) (now (out .exit)) r ⌝ }
     ensures { λ r. ⌜ r ≤ at + 28 ⌝ }
 {
-    match step {
-        Step::Terminal(visit, _) => put_line(out, at, visit, column),
-        Step::Finished => at,
+    match entry {
+        Entry::Terminal(terminal) => put_line(
+            out,
+            at,
+            Visit {
+                side,
+                place,
+                terminal,
+            },
+            column,
+        ),
+        Entry::Nothing => at,
     }
 }
 
-// A line for each terminal and its column, top then bottom.
-pub fn put_lines(s: &[u8], columns: &[u8], out: &mut [u8], at: usize) -> usize
+// A line for each terminal of a side's section and its column.
+pub fn put_side(side: Side, part: &[u8], columns: &[u8], out: &mut [u8], at: usize) -> usize
     requires { ⌜ at + 28 * length (now columns) ≤ length (now out) ⌝ }
-    ensures { λ r. ⌜ Wrote (now (out .entry)) at (lines (walkOf (now (s .entry))) (now (columns .entry))) (now (out .exit)) r ⌝ }
+    ensures { λ r. ⌜ Wrote (now (out .entry)) at (lines (visits side 1 (terminalsIn (now (part .entry)))) (now (columns .entry))) (now (out .exit)) r ⌝ }
     ensures { λ r. ⌜ r ≤ at + 28 * length (now (columns .entry)) ⌝ }
 {
     let mut end = at;
     let mut k = 0;
     while k < columns.len() {
-        let step = reader::read_at(s, k);
-        end = put_step(out, end, step, columns[k]);
+        let entry = sheet::record_in(part, k + 1);
+        end = put_entry(out, end, side, k + 1, entry, columns[k]);
         k += 1;
     }
     end

@@ -7,7 +7,7 @@ use mathlib.Core.Bool.{Bool, true, false}
 use native.Mathlib.Omega.{arith}
 use native.Mathlib.Nat.{pow-zero, pow-suc}
 use lib.Dec.{ltb}
-use Rattle.text.specs.Digits.{digits}
+use Rattle.text.specs.Digits.{digits, numeral}
 
 -- the number that digits spell, after those that spell n
 abbrev pub spelt : ℕ → List ℕ → ℕ
@@ -18,8 +18,8 @@ spelt-last : (n : ℕ) (ds : List ℕ) (d : ℕ) → spelt n (ds ++ (d ∷ [])) 
 spelt-last n [] d = refl
 spelt-last n (e ∷ ds) d = spelt-last (10 * n + (e - 48)) ds d
 
--- as many digits as the number needs, or more
-pub digits-spell : (k n : ℕ) → n < 10 ^ k → spelt 0 (digits k n) ≡ n
+-- with as many digits as the number needs, or more
+digits-spell : (k n : ℕ) → n < 10 ^ k → spelt 0 (digits k n) ≡ n
 digits-spell zero n h = let one : 10 ^ 0 ≡ 1 = pow-zero 10 in omega arith
 digits-spell (suc k) n h =
     let more : 10 ^ suc k ≡ 10 ^ k * 10 = pow-suc 10 k in
@@ -29,3 +29,7 @@ digits-spell (suc k) n h =
     by-size : spelt 0 (digits k (n / 10)) ≡ n / 10 → (b : Bool) → ltb n 10 ≡ b → spelt 0 (digits (suc k) n) ≡ n
     by-size front true e = rw e (omega arith)
     by-size front false e = rw (e, spelt-last, front) (omega arith)
+
+pub numeral-spells : (k n : ℕ) → n < 10 ^ k → spelt 0 (numeral k n) ≡ n
+unfolding numeral
+numeral-spells k n h = digits-spell k n h

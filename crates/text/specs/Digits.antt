@@ -10,6 +10,10 @@ abbrev pub digits : ℕ → ℕ → List ℕ
 digits zero n = []
 digits (suc k) n = cond (ltb n 10) ((48 + n) ∷ []) (digits k (n / 10) ++ ((48 + n % 10) ∷ []))
 
--- a name and its number, with k digits at most
+-- a number, with k digits at most
+unfoldable pub numeral : ℕ → ℕ → List ℕ
+numeral k n = digits k n
+
+-- a name and its number
 abbrev pub field : ℕ → List ℕ → ℕ → List ℕ
-field k name n = name ++ digits k n
+field k name n = name ++ numeral k n

@@ -1,6 +1,7 @@
 -- `text::put_field` meets its contract: the name, then the digits behind it.
 -- Assumes nothing.
 use native.Mathlib.Omega.{arith}
+use Rattle.text.specs.Digits.{numeral}
 use Rattle.text.proofs.Writes.{after}
 use Rattle.text.proofs.Numbers.{digits-at-most}
 use borrow.Author.Needs.{needs}
@@ -8,6 +9,7 @@ use Rattle.text.proofs.put_field.Statement.{statement}
 use Rattle.text.proofs.put_field.Tie as tie
 
 returns : tie.Need-returns
+unfolding numeral
 returns c =
     let at-put-text = c .before .before .before .before .before .before in
     let a = at-put-text .before .before .before .before .args in
