@@ -3,13 +3,13 @@
 use Prim.Native.Nat.{ℕ, zero, suc}
 use mathlib.Core.Path.{_≡_, refl, ap}
 use mathlib.Core.List.{List, [], _∷_}
-use mathlib.Core.Bool.{Bool, true, false, not, cond, _&&_, _||_, or-self, or-false}
+use mathlib.Core.Bool.{Bool, true, false, cond, _&&_, _||_, and-false, or-self, or-false}
 use native.Mathlib.Omega.{arith}
 use lib.ListN.{length}
-use lib.Dec.{leb, eqb}
-use borrow.Author.Tests.{leb-true, eq-eqb}
+use lib.Dec.{ltb, eqb}
+use borrow.Author.Tests.{ltb-true, ne-eqb}
 use Rattle.channel.specs.Sheet.{Sheet}
-use Rattle.channel.specs.Density.{any, Pin, somePin, crosses, netsOf, columnDensity, maximumTo, density}
+use Rattle.channel.specs.Density.{any, Pin, somePin, crossing, crosses, netsOf, columnDensity, maximumTo, density}
 use Rattle.channel.specs.Spans.{netColumns}
 
 -- a net has a pin that passes a test exactly if one of its columns passes it
@@ -21,28 +21,29 @@ somePin-columns f n (p ∷ ps) = rw (somePin-columns f n ps) (go (eqb (p .net) n
     go true = refl
     go false = refl
 
--- the three tests of a crossing, of the columns of a net's pins
+-- a crossing, of the columns of a net's pins
 abbrev pub crossed : List ℕ → ℕ → Bool
-crossed ks c = any (λ (k : ℕ). leb k c) ks && (any (λ (k : ℕ). leb c k) ks && any (λ (k : ℕ). not (eqb k c)) ks)
+crossed ks c = crossing (any (λ (k : ℕ). ltb k c) ks) (any (λ (k : ℕ). eqb k c) ks) (any (λ (k : ℕ). ltb c k) ks)
 
 -- whether a net crosses a column depends on its own columns alone
 pub crosses-columns : (ps : List Pin) (n c : ℕ) → crosses ps n c ≡ crossed (netColumns n ps) c
 unfolding crosses
 crosses-columns ps n c =
     rw (
-      somePin-columns (λ (k : ℕ). leb k c) n ps,
-      somePin-columns (λ (k : ℕ). leb c k) n ps,
-      somePin-columns (λ (k : ℕ). not (eqb k c)) n ps,
+      somePin-columns (λ (k : ℕ). ltb k c) n ps,
+      somePin-columns (λ (k : ℕ). eqb k c) n ps,
+      somePin-columns (λ (k : ℕ). ltb c k) n ps,
     )
 
--- one column is not at or left of c, at or right of c and yet outside c
-one-column : (k c : ℕ) → (leb k c && (leb c k && not (eqb k c))) ≡ false
-one-column k c = go (leb k c) refl (leb c k) refl
+-- one column stands on one side of c alone, or in it
+one-column : (k c : ℕ) → crossing (ltb k c) (eqb k c) (ltb c k) ≡ false
+one-column k c = go (ltb k c) refl (ltb c k) refl
   where
-    go : (a : Bool) → leb k c ≡ a → (b : Bool) → leb c k ≡ b → (a && (b && not (eqb k c))) ≡ false
-    go true e true d = ap not (eq-eqb k c (omega (arith, leb-true k c e, leb-true c k d)))
-    go true e false d = refl
-    go false e b d = refl
+    go : (a : Bool) → ltb k c ≡ a → (b : Bool) → ltb c k ≡ b → crossing a (eqb k c) b ≡ false
+    go true e true d = absurd (omega (arith, ltb-true k c e, ltb-true c k d))
+    go true e false d = rw (ne-eqb k c (λ q. omega (arith, ltb-true k c e)))
+    go false e true d = rw (ne-eqb k c (λ q. omega (arith, ltb-true c k d)))
+    go false e false d = rw (and-false, and-false)
 
 -- a net with no pin crosses nothing
 pub no-pin : (ps : List Pin) (n : ℕ) → netColumns n ps ≡ [] → (c : ℕ) → crosses ps n c ≡ false

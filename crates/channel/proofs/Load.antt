@@ -3,35 +3,35 @@
 use Prim.Native.Nat.{ℕ, suc, _+_, _≤_, max}
 use mathlib.Core.Path.{_≡_, refl, sym, ap, ap₂, _∙_, fun-ext}
 use mathlib.Core.List.{List, [], _∷_, _++_, append-assoc}
-use mathlib.Core.Bool.{Bool, true, false, not, cond, _&&_, _||_, and-false, or-false, false≢true}
+use mathlib.Core.Bool.{Bool, true, false, cond, _&&_, _||_, and-false, or-false, false≢true}
 use native.Mathlib.Nat.{le-refl, le-trans, le-max-right, zero-max}
 use native.Mathlib.Numerals.{add-one}
 use native.Mathlib.Omega.{arith}
 use lib.ListN.{length, take, drop, length-map, take-append-drop}
 use lib.Seq.{drop-drop, drop-length}
-use lib.Dec.{leb, eqb}
-use borrow.Author.Tests.{le-leb, lt-leb, eq-eqb, ne-eqb}
+use lib.Dec.{ltb, eqb}
+use borrow.Author.Tests.{lt-ltb, le-ltb, eq-eqb, ne-eqb}
 use Rattle.channel.specs.Sheet.{Terminal, Sheet}
-use Rattle.channel.specs.Density.{pins, crosses, weight, weightOf, netsOf, columnDensity, maximumTo, density}
+use Rattle.channel.specs.Density.{pins, crossing, crosses, weight, weightOf, netsOf, columnDensity, maximumTo, density}
 use Rattle.channel.specs.Word.{Letter, hasTop, hasBottom, columnsOf}
 use Rattle.channel.specs.Word.Letter.{empty, top, bottom, both}
 use Rattle.channel.specs.Cut.{count, nets, has, leftOf, hereOf, rightOf, leftNets, hereNets, rightNets, crossesCut, load, occupied, firstLoad, wordLoad}
 use Rattle.channel.proofs.Pins.{Test, word-cut, any-swap}
 
--- the three tests of a crossing: at or left of column c, at or right of it, not in it
-at-or-left : (c : ℕ) → Test (λ (k : ℕ). leb k c) c true true false
-at-or-left c = record { left = λ k h. le-leb k c (omega arith); here = le-leb c c (le-refl c); right = λ k h. lt-leb k c h }
+-- the three tests of a crossing: left of column c, in it, right of it
+left-of : (c : ℕ) → Test (λ (k : ℕ). ltb k c) c true false false
+left-of c = record { left = λ k h. lt-ltb k c h; here = le-ltb c c (le-refl c); right = λ k h. le-ltb k c (omega arith) }
 
-at-or-right : (c : ℕ) → Test (λ (k : ℕ). leb c k) c false true true
-at-or-right c = record { left = λ k h. lt-leb c k h; here = le-leb c c (le-refl c); right = λ k h. le-leb c k (omega arith) }
-
-outside : (c : ℕ) → Test (λ (k : ℕ). not (eqb k c)) c true false true
-outside c =
+in-it : (c : ℕ) → Test (λ (k : ℕ). eqb k c) c false true false
+in-it c =
     record {
-      left = λ k h. ap not (ne-eqb k c (λ e. omega arith));
-      here = ap not (eq-eqb c c refl);
-      right = λ k h. ap not (ne-eqb k c (λ e. omega arith));
+      left = λ k h. ne-eqb k c (λ e. omega arith);
+      here = eq-eqb c c refl;
+      right = λ k h. ne-eqb k c (λ e. omega arith);
     }
+
+right-of : (c : ℕ) → Test (λ (k : ℕ). ltb c k) c false false true
+right-of c = record { left = λ k h. le-ltb c k (omega arith); here = le-ltb c c (le-refl c); right = λ k h. lt-ltb c k h }
 
 -- of the word v ++ (a ∷ u), whose letter a stands in column suc (length u)
 module _ (s : Sheet) (v : List Letter) (a : Letter) (u : List Letter)
@@ -47,9 +47,10 @@ module _ (s : Sheet) (v : List Letter) (a : Letter) (u : List Letter)
   crosses-cut n =
       let c : ℕ = suc (length u) in
       rw (
-        word-cut (λ (k : ℕ). leb k c) true true false s v a u (at-or-left c) tops bottoms n,
-        word-cut (λ (k : ℕ). leb c k) false true true s v a u (at-or-right c) tops bottoms n,
-        word-cut (λ (k : ℕ). not (eqb k c)) true false true s v a u (outside c) tops bottoms n,
+        word-cut (λ (k : ℕ). ltb k c) true false false s v a u (left-of c) tops bottoms n,
+        word-cut (λ (k : ℕ). eqb k c) false true false s v a u (in-it c) tops bottoms n,
+        word-cut (λ (k : ℕ). ltb c k) false false true s v a u (right-of c) tops bottoms n,
+        or-false,
         or-false,
       )
 
@@ -81,7 +82,7 @@ next-right false i ns = refl
 -- an empty column's load is at most that of the next column to its right: what crosses it has a pin left of it and one right of it
 pub empty-load : (s : Sheet) (a : Letter) (i j : ℕ) → load s empty i j ≤ load s a (cond (hasTop a) (suc i) i) (cond (hasBottom a) (suc j) j)
 unfolding load
-empty-load s a i j = weight-mono _ _ crossing (netsOf s)
+empty-load s a i j = weight-mono _ _ more (netsOf s)
   where
     x : ℕ
     x = cond (hasTop a) (suc i) i
@@ -97,14 +98,14 @@ empty-load s a i j = weight-mono _ _ crossing (netsOf s)
         rw (← next-right (hasTop a) i (nets (s .top)), ← next-right (hasBottom a) j (nets (s .bottom)))
         (rw any-swap)
 
-    cross : (l h r : Bool) → ((l || false) && ((h || r) && (l || (h || r)))) ≡ true → ((l || h) && ((h || r) && (l || r))) ≡ true
+    cross : (l h r : Bool) → crossing l false (h || r) ≡ true → crossing l h r ≡ true
     cross true h r e = e
     cross false h r e = absurd (false≢true e)
 
-    crossing : (n : ℕ)
+    more : (n : ℕ)
         → crossesCut n (leftNets s empty i j) (hereNets s empty i j) (rightNets s i j) ≡ true
         → crossesCut n (leftNets s a x y) (hereNets s a x y) (rightNets s x y) ≡ true
-    crossing n e = rw left (cross (has n (leftNets s empty i j)) (has n (hereNets s a x y)) (has n (rightNets s x y)) (rw (right n) at e))
+    more n e = rw left (cross (has n (leftNets s empty i j)) (has n (hereNets s a x y)) (has n (rightNets s x y)) (rw (right n) at e))
 
 -- where every pin stands at or left of an empty column, nothing crosses it
 pub last-load : (s : Sheet) → load s empty (length (s .top)) (length (s .bottom)) ≡ 0

@@ -1,15 +1,15 @@
 -- How far a net reaches decides which columns it crosses, and a sum over the terminals in their order counts each net once.
 -- Assumes nothing.
-use Prim.Native.Nat.{ℕ, suc, _+_, _≤_, min, max}
-use mathlib.Core.Path.{_≡_, refl, sym, ap, _∙_, fun-ext}
+use Prim.Native.Nat.{ℕ, suc, _+_, _≤_, _<_, min, max}
+use mathlib.Core.Path.{_≡_, refl, sym, ap, ap₂, _∙_, fun-ext}
 use mathlib.Core.List.{List, [], _∷_, _++_}
-use mathlib.Core.Bool.{Bool, true, false, not, cond, _&&_, _||_, and-false, and-true, or-assoc, or-true, or-false}
+use mathlib.Core.Bool.{Bool, true, false, cond, _&&_, _||_, and-false, or-assoc, or-true, or-false, true≢false}
 use native.Mathlib.Omega.{arith}
 use native.Mathlib.Nat.{zero-add, zero-max}
 use lib.Dec.{leb, ltb, eqb}
-use borrow.Author.Tests.{leb-true, leb-false, le-leb, lt-leb, ltb-true, ltb-false, lt-ltb, le-ltb, eq-eqb, ne-eqb}
+use borrow.Author.Tests.{leb-true, leb-false, le-leb, lt-leb, ltb-true, ltb-false, lt-ltb, le-ltb, eqb-true, eqb-false, eq-eqb, ne-eqb}
 use Rattle.channel.specs.Sheet.{Terminal, Sheet}
-use Rattle.channel.specs.Density.{any, Pin, pins, crosses, distinct, netsOf, weight, weightOf, columnDensity, maximumTo, density}
+use Rattle.channel.specs.Density.{any, Pin, pins, crossing, crosses, distinct, netsOf, weight, weightOf, columnDensity, maximumTo, density}
 use Rattle.channel.specs.Cut.{nets}
 use Rattle.channel.specs.Spans.{netColumns, endFrom, leftmost, rightmost, Below, spans, sumLast}
 use Rattle.channel.proofs.Crossings.{crossed, crosses-columns, no-pin}
@@ -56,55 +56,123 @@ leb-max c i j = go (leb c i) refl (leb c j) refl
 ltb-min : (c i j : ℕ) → ltb (min i j) c ≡ (ltb i c || ltb j c)
 ltb-min c i j = ap (λ (k : ℕ). leb k c) (omega arith) ∙ leb-min c (suc i) (suc j)
 
--- outside c is left or right of it
-outside : (k c : ℕ) → not (eqb k c) ≡ (ltb k c || ltb c k)
-outside k c = go (ltb k c) refl (ltb c k) refl
+-- at or left of c is left of it or in it; and at or right of it
+leb-left : (c k : ℕ) → leb k c ≡ (ltb k c || eqb k c)
+leb-left c k = go (ltb k c) refl (eqb k c) refl
   where
-    go : (a : Bool) → ltb k c ≡ a → (b : Bool) → ltb c k ≡ b → not (eqb k c) ≡ (a || b)
-    go true e b d = ap not (ne-eqb k c (λ p. omega (arith, ltb-true k c e)))
-    go false e true d = ap not (ne-eqb k c (λ p. omega (arith, ltb-true c k d)))
-    go false e false d = ap not (eq-eqb k c (omega (arith, ltb-false k c e, ltb-false c k d)))
+    go : (a : Bool) → ltb k c ≡ a → (b : Bool) → eqb k c ≡ b → leb k c ≡ (a || b)
+    go true e b d = le-leb k c (omega (arith, ltb-true k c e))
+    go false e true d = le-leb k c (omega (arith, eqb-true k c d))
+    go false e false d = lt-leb k c (omega (arith, ltb-false k c e, eqb-false k c d))
 
--- some column is outside c exactly if some is left of it or some right of it
-any-outside : (c : ℕ) (ks : List ℕ)
-    → any (λ (k : ℕ). not (eqb k c)) ks ≡ (any (λ (k : ℕ). ltb k c) ks || any (λ (k : ℕ). ltb c k) ks)
-any-outside c [] = refl
-any-outside c (k ∷ ks) = rw (outside k c, any-outside c ks) (go (ltb k c) (ltb c k) (any (λ (k : ℕ). ltb k c) ks) (any (λ (k : ℕ). ltb c k) ks))
+leb-right : (c k : ℕ) → leb c k ≡ (ltb c k || eqb k c)
+leb-right c k = go (ltb c k) refl (eqb k c) refl
   where
-    go : (x y z w : Bool) → (x || y || (z || w)) ≡ (x || z || (y || w))
-    go true y z w = refl
-    go false true z w = sym (or-true z)
-    go false false z w = refl
+    go : (a : Bool) → ltb c k ≡ a → (b : Bool) → eqb k c ≡ b → leb c k ≡ (a || b)
+    go true e b d = le-leb c k (omega (arith, ltb-true c k e))
+    go false e true d = le-leb c k (omega (arith, eqb-true k c d))
+    go false e false d = lt-leb c k (omega (arith, ltb-false c k e, eqb-false k c d))
 
--- where l ≤ c ≤ r, one of them is outside c exactly if they differ
-span-outside : (l r c : ℕ) → l ≤ c → c ≤ r → (ltb l c || ltb c r) ≡ ltb l r
-span-outside l r c h k = go (ltb l c) refl (ltb c r) refl
+-- of columns none of which meets the first of two tests, one meets either exactly if one meets the second
+any-second :
+    (f g h : ℕ → Bool) → ((k : ℕ) → f k ≡ (g k || h k)) → (ks : List ℕ) → any g ks ≡ false → any h ks ≡ any f ks
+any-second f g h split [] none = refl
+any-second f g h split (k ∷ ks) none = go (g k) refl (any g ks) (any-second f g h split ks) none
   where
-    go : (a : Bool) → ltb l c ≡ a → (b : Bool) → ltb c r ≡ b → (a || b) ≡ ltb l r
-    go true e b d = sym (lt-ltb l r (omega (arith, ltb-true l c e)))
-    go false e true d = sym (lt-ltb l r (omega (arith, ltb-true c r d)))
-    go false e false d = sym (le-ltb l r (omega (arith, ltb-false l c e, ltb-false c r d)))
+    go : (x : Bool) → g k ≡ x → (y : Bool) → (y ≡ false → any h ks ≡ any f ks) → (x || y) ≡ false → (h k || any h ks) ≡ (f k || any f ks)
+    go true e y more q = absurd (true≢false q)
+    go false e true more q = absurd (true≢false q)
+    go false e false more q = rw (split k, e, more refl)
 
--- the three tests of a crossing, of the two ends
-span-test : (l r c : ℕ) → (leb l c && (leb c r && (ltb l c || ltb c r))) ≡ spans l r c
-span-test l r c = go (leb l c) refl (leb c r) refl
-  where
-    go : (a : Bool) → leb l c ≡ a → (b : Bool) → leb c r ≡ b → (a && (b && (ltb l c || ltb c r))) ≡ (ltb l r && (a && b))
-    go true e true d = span-outside l r c (leb-true l c e) (leb-true c r d) ∙ sym (and-true (ltb l r))
-    go true e false d = sym (and-false (ltb l r))
-    go false e b d = sym (and-false (ltb l r))
+-- a crossing with something on both sides, or on neither, does not ask what stands in the column
+crossing-here : (l h i r : Bool) → (l ≡ false → h ≡ i) → (r ≡ false → h ≡ i) → crossing l h r ≡ crossing l i r
+crossing-here true h i true e d = rw (or-true h, or-true i)
+crossing-here true h i false e d = rw (d refl)
+crossing-here false h i r e d = rw (e refl)
+
+-- the least is no greater than the greatest
+ends-order : (a b : ℕ) (ks : List ℕ) → a ≤ b → pickFrom min a ks ≤ pickFrom max b ks
+ends-order a b [] h = h
+ends-order a b (k ∷ ks) h = ends-order (min a k) (max b k) ks (omega arith)
 
 -- columns k ∷ ks cross c exactly if their least and greatest do
 crossed-span : (k : ℕ) (ks : List ℕ) (c : ℕ) → crossed (k ∷ ks) c ≡ spans (pickFrom min k ks) (pickFrom max k ks) c
 crossed-span k ks c =
-    rw (
-      any-outside c (k ∷ ks),
-      ← pick-any min (λ (k : ℕ). leb k c) (leb-min c) k ks,
-      ← pick-any max (λ (k : ℕ). leb c k) (leb-max c) k ks,
-      ← pick-any min (λ (k : ℕ). ltb k c) (ltb-min c) k ks,
-      ← pick-any max (λ (k : ℕ). ltb c k) (leb-max (suc c)) k ks,
-    )
-    (span-test (pickFrom min k ks) (pickFrom max k ks) c)
+    crossing-here _ (any (λ (j : ℕ). eqb j c) (k ∷ ks)) (eqb l c || eqb r c) _ at-left at-right
+    ∙ ap₂ (λ (x y : Bool). crossing x (eqb l c || eqb r c) y) (sym left) (sym right)
+  where
+    l : ℕ
+    l = pickFrom min k ks
+
+    r : ℕ
+    r = pickFrom max k ks
+
+    left : ltb l c ≡ any (λ (j : ℕ). ltb j c) (k ∷ ks)
+    left = pick-any min (λ (j : ℕ). ltb j c) (ltb-min c) k ks
+
+    right : ltb c r ≡ any (λ (j : ℕ). ltb c j) (k ∷ ks)
+    right = pick-any max (λ (j : ℕ). ltb c j) (leb-max (suc c)) k ks
+
+    order : l ≤ r
+    order = ends-order k k ks (omega arith)
+
+    -- nothing left of c: what stands in c is the least
+    at-left : any (λ (j : ℕ). ltb j c) (k ∷ ks) ≡ false → any (λ (j : ℕ). eqb j c) (k ∷ ks) ≡ (eqb l c || eqb r c)
+    at-left none =
+        any-second (λ (j : ℕ). leb j c) (λ (j : ℕ). ltb j c) (λ (j : ℕ). eqb j c) (leb-left c) (k ∷ ks) none
+        ∙ sym (pick-any min (λ (j : ℕ). leb j c) (leb-min c) k ks)
+        ∙ go (leb l c) refl
+      where
+        from : c ≤ l
+        from = ltb-false l c (left ∙ none)
+
+        go : (x : Bool) → leb l c ≡ x → leb l c ≡ (eqb l c || eqb r c)
+        go true e = e ∙ rw (eq-eqb l c (omega (arith, leb-true l c e, from)))
+        go false e = let behind = leb-false l c e in e ∙ rw (ne-eqb l c (λ q. omega arith), ne-eqb r c (λ q. omega (arith, order)))
+
+    -- nothing right of c: it is the greatest
+    at-right : any (λ (j : ℕ). ltb c j) (k ∷ ks) ≡ false → any (λ (j : ℕ). eqb j c) (k ∷ ks) ≡ (eqb l c || eqb r c)
+    at-right none =
+        any-second (λ (j : ℕ). leb c j) (λ (j : ℕ). ltb c j) (λ (j : ℕ). eqb j c) (leb-right c) (k ∷ ks) none
+        ∙ sym (pick-any max (λ (j : ℕ). leb c j) (leb-max c) k ks)
+        ∙ go (leb c r) refl
+      where
+        to : r ≤ c
+        to = ltb-false c r (right ∙ none)
+
+        go : (x : Bool) → leb c r ≡ x → leb c r ≡ (eqb l c || eqb r c)
+        go true e = e ∙ rw (eq-eqb r c (omega (arith, leb-true c r e, to)), or-true)
+        go false e = let before = leb-false c r e in e ∙ rw (ne-eqb l c (λ q. omega (arith, order)), ne-eqb r c (λ q. omega arith))
+
+-- a net from one column to another crosses each from the one to the other, where the two differ
+pub spans-from : (l r c : ℕ) → spans l r c ≡ (ltb l r && (leb l c && leb c r))
+spans-from l r c = go (ltb l c) refl (ltb c r) refl
+  where
+    by-right : (t : Bool) → eqb r c ≡ t → l < c → r ≤ c → crossing true t false ≡ (ltb l r && (leb l c && leb c r))
+    by-right true e x y = let z = eqb-true r c e in rw (lt-ltb l r (omega arith), le-leb l c (omega arith), le-leb c r (omega arith))
+    by-right false e x y = let z = eqb-false r c e in rw (lt-leb c r (omega arith)) (simp and-false)
+
+    by-left : (t : Bool) → eqb l c ≡ t → c ≤ l → c < r → crossing false (t || false) true ≡ (ltb l r && (leb l c && leb c r))
+    by-left true e x y = let z = eqb-true l c e in rw (lt-ltb l r (omega arith), le-leb l c (omega arith), le-leb c r (omega arith))
+    by-left false e x y = let z = eqb-false l c e in rw (lt-leb l c (omega arith)) (simp and-false)
+
+    go : (a : Bool) → ltb l c ≡ a → (b : Bool) → ltb c r ≡ b → crossing a (eqb l c || eqb r c) b ≡ (ltb l r && (leb l c && leb c r))
+    go true e true d =
+        let x = ltb-true l c e in
+        let y = ltb-true c r d in
+        rw (or-true, lt-ltb l r (omega arith), le-leb l c (omega arith), le-leb c r (omega arith))
+    go true e false d =
+        let x = ltb-true l c e in
+        let y = ltb-false c r d in
+        rw (ne-eqb l c (λ q. omega arith)) (by-right (eqb r c) refl x y)
+    go false e true d =
+        let x = ltb-false l c e in
+        let y = ltb-true c r d in
+        rw (ne-eqb r c (λ q. omega arith)) (by-left (eqb l c) refl x y)
+    go false e false d =
+        let x = ltb-false l c e in
+        let y = ltb-false c r d in
+        rw (and-false, and-false, le-ltb l r (omega arith))
 
 -- the two ends of a net with pins are the least and the greatest of its columns, if the first is not above 255
 net-ends : (ps : List Pin) (n k : ℕ) (ks : List ℕ) → netColumns n ps ≡ k ∷ ks → k ≤ 255
@@ -125,7 +193,7 @@ pub crosses-span : (ps : List Pin) (n c : ℕ) → Below 255 (netColumns n ps) �
 crosses-span ps n c h = go (netColumns n ps) refl h
   where
     go : (ks : List ℕ) → netColumns n ps ≡ ks → Below 255 ks → crosses ps n c ≡ spans (leftmost n ps) (rightmost n ps) c
-    go [] e b = let (l, r) = no-pin-ends ps n e in rw (no-pin ps n e c, l, r)
+    go [] e b = let (l, r) = no-pin-ends ps n e in rw (no-pin ps n e c, l, r) (sym (spans-from 255 0 c))
     go (k ∷ ks) e b = let (l, r) = net-ends ps n k ks e (b .0) in rw (crosses-columns ps n c, e, l, r) (crossed-span k ks c)
 
 -- where no column of a list is above b, no pin of a net stands above b

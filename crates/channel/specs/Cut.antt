@@ -3,11 +3,11 @@
 -- Assumes nothing.
 use Prim.Native.Nat.{ℕ, suc, pred, max}
 use mathlib.Core.List.{List, [], _∷_, _++_, map}
-use mathlib.Core.Bool.{Bool, cond, _&&_, _||_}
+use mathlib.Core.Bool.{Bool, cond, _||_}
 use lib.ListN.{take, drop}
 use lib.Dec.{eqb}
 use Rattle.channel.specs.Sheet.{Terminal, Sheet}
-use Rattle.channel.specs.Density.{any, weightOf, netsOf}
+use Rattle.channel.specs.Density.{any, crossing, weightOf, netsOf}
 use Rattle.channel.specs.Word.{Letter, hasTop, hasBottom}
 
 -- how many letters of a word f holds of: with hasTop, its top pins
@@ -48,10 +48,9 @@ hereNets s a i j = hereOf (hasTop a) i (nets (s .top)) ++ hereOf (hasBottom a) j
 abbrev pub rightNets : Sheet → ℕ → ℕ → List ℕ
 rightNets s i j = rightOf i (nets (s .top)) ++ rightOf j (nets (s .bottom))
 
--- a net crosses a column with these nets left of it, in it and right of it: it has a pin at or left of the column,
--- one at or right of it, and one outside it
+-- a net crosses a column with these nets left of it, in it and right of it
 abbrev pub crossesCut : ℕ → List ℕ → List ℕ → List ℕ → Bool
-crossesCut n left here right = (has n left || has n here) && ((has n here || has n right) && (has n left || has n right))
+crossesCut n left here right = crossing (has n left) (has n here) (has n right)
 
 -- the load of that column: the weights of the nets that cross it
 unfoldable pub load : Sheet → Letter → ℕ → ℕ → ℕ

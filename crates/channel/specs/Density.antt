@@ -2,8 +2,8 @@
 -- Assumes nothing.
 use Prim.Native.Nat.{ℕ, zero, suc, _+_, max}
 use mathlib.Core.List.{List, [], _∷_, _++_, map}
-use mathlib.Core.Bool.{Bool, false, not, cond, _&&_, _||_}
-use lib.Dec.{leb, eqb}
+use mathlib.Core.Bool.{Bool, false, cond, _&&_, _||_}
+use lib.Dec.{ltb, eqb}
 use Rattle.channel.specs.Sheet.{Terminal, Sheet}
 
 abbrev pub any {ℓ} : {A : Type ℓ} → (A → Bool) → List A → Bool
@@ -24,12 +24,15 @@ pins (t ∷ ts) (c ∷ cs) = record { net = t .net; column = c } ∷ pins ts cs
 abbrev pub somePin : (ℕ → Bool) → ℕ → List Pin → Bool
 somePin f n = any (λ (p : Pin). eqb (p .net) n && f (p .column))
 
--- "A net crosses column c when its leftmost pin is at or left of c, its rightmost at or right of c, and some pin is not in c":
--- some pin at or left of c, some pin at or right of c, some pin outside c
+-- The one rule of counting. A net that has pins left of a column, in it and right of it, or not, crosses the column: "its leftmost pin is
+-- at or left of c, its rightmost at or right of c, and some pin is not in c"
+abbrev pub crossing : Bool → Bool → Bool → Bool
+crossing left here right = (left || here) && ((here || right) && (left || right))
+
+-- "A net crosses column c when .."
 unfoldable pub crosses : List Pin → ℕ → ℕ → Bool
 crosses ps n c =
-    somePin (λ (k : ℕ). leb k c) n ps
-    && (somePin (λ (k : ℕ). leb c k) n ps && somePin (λ (k : ℕ). not (eqb k c)) n ps)
+    crossing (somePin (λ (k : ℕ). ltb k c) n ps) (somePin (λ (k : ℕ). eqb k c) n ps) (somePin (λ (k : ℕ). ltb c k) n ps)
 
 abbrev pub distinct : List ℕ → List ℕ
 distinct [] = []

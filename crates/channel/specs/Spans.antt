@@ -2,9 +2,9 @@
 -- Assumes nothing.
 use Prim.Native.Nat.{ℕ, _+_, _≤_, min, max}
 use mathlib.Core.List.{List, [], _∷_}
-use mathlib.Core.Bool.{Bool, cond, _&&_}
-use lib.Dec.{leb, ltb, eqb}
-use Rattle.channel.specs.Density.{any, Pin, weight}
+use mathlib.Core.Bool.{Bool, cond, _||_}
+use lib.Dec.{ltb, eqb}
+use Rattle.channel.specs.Density.{any, Pin, crossing, weight}
 
 -- the columns of net n's pins, in their order
 abbrev pub netColumns : ℕ → List Pin → List ℕ
@@ -28,9 +28,10 @@ abbrev pub Below : ℕ → List ℕ → Type 0
 Below b [] = Unit {0}
 Below b (c ∷ cs) = (c ≤ b) × Below b cs
 
--- a net from column l to column r crosses column c
+-- a net whose leftmost pin stands in column l and whose rightmost in column r crosses column c: its ends tell what stands left of c and
+-- right of c, and where nothing stands on one of the two sides, whether something stands in c
 abbrev pub spans : ℕ → ℕ → ℕ → Bool
-spans l r c = ltb l r && (leb l c && leb c r)
+spans l r c = crossing (ltb l c) (eqb l c || eqb r c) (ltb c r)
 
 -- the weights of those nets of a list of which f holds, each counted where it occurs last
 abbrev pub sumLast : (ℕ → Bool) → List ℕ → ℕ

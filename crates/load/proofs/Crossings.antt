@@ -9,7 +9,7 @@ use native.Mathlib.Nat.{le-refl, mul-div-right}
 use lib.ListN.{length, getD, take}
 use lib.Dec.{leb, ltb, eqb}
 use lib.Seq.{take-suc, take-length}
-use Rattle.channel.specs.Density.{weightOf, distinct}
+use Rattle.channel.specs.Density.{weightOf, distinct, crossing}
 use Rattle.channel.specs.Word.{Letter, hasTop, hasBottom}
 use Rattle.channel.specs.Word.Letter.{top as T, bottom as B, both as TB}
 use Rattle.channel.specs.Cut.{leftOf, hereOf, rightOf, crossesCut}
@@ -19,7 +19,7 @@ use Rattle.load.specs.declared.counting.Loads.{Loads}
 use Rattle.load.specs.declared.spans.Span.{Span}
 use Rattle.load.specs.Cuts.{loadOf}
 use Rattle.load.specs.Ends.{spanOf, numbersOf, spansOf, spanAt, Listed}
-use Rattle.load.specs.Counts.{cutOf, twoOf, crossesAs, withNet, loadsTo, loadsAt}
+use Rattle.load.specs.Counts.{cutOf, crossesAs, withNet, loadsTo, loadsAt}
 use Rattle.load.proofs.Places.{side-left, side-here, side-right}
 
 -- a net crosses the column of a cut exactly if its ends say so
@@ -114,7 +114,7 @@ loads-small spans c m l e h =
 -- the loads with a net more, from the three tests of it as the code makes them: a top column has no bottom pin to test
 pub net-more : (c : Cut) (l : Loads) (s : Span) (x y z : Bool) (p q r : ℕ)
     → x
-    ≡ twoOf (ltb (s .top .first) (c .top .count) || leb (s .bottom .first) (c .bottom .count)) (eqb (c .top .net) (s .net))
+    ≡ crossing (ltb (s .top .first) (c .top .count) || leb (s .bottom .first) (c .bottom .count)) (eqb (c .top .net) (s .net))
     (ltb (c .top .count) (s .top .last) || ltb (c .bottom .count) (s .bottom .last))
     → y ≡ crossesAs B c s
     → z ≡ crossesAs TB c s

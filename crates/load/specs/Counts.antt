@@ -5,6 +5,7 @@ use mathlib.Core.List.{List, _∷_}
 use mathlib.Core.Bool.{Bool, cond, _&&_, _||_}
 use lib.ListN.{length, getD}
 use lib.Dec.{leb, ltb, eqb}
+use Rattle.channel.specs.Density.{crossing}
 use Rattle.channel.specs.Word.{Letter, hasTop, hasBottom}
 use Rattle.channel.specs.Word.Letter.{top as T, bottom as B, both as TB}
 use Rattle.load.specs.declared.counting.Cut.{Cut}
@@ -24,10 +25,6 @@ standOf ns i = record { count = i; net = netAt ns i }
 abbrev pub cutOf : List ℕ → List ℕ → ℕ → ℕ → Cut
 cutOf tops bottoms i j = record { top = standOf tops i; bottom = standOf bottoms j }
 
--- at least two of three: left of the column, in it, right of it
-abbrev pub twoOf : Bool → Bool → Bool → Bool
-twoOf left here right = (left || here) && ((here || right) && (left || right))
-
 -- of one side, with a pin in the column if h: a net whose first place is `first` has a pin left of the column
 abbrev pub leftTest : Bool → ℕ → ℕ → Bool
 leftTest h first i = cond h (ltb first i) (leb first i)
@@ -39,7 +36,7 @@ hereTest h s n = h && eqb (s .net) n
 -- whether a net crosses the column, where it holds letter a
 abbrev pub crossesAs : Letter → Cut → Span → Bool
 crossesAs a c s =
-    twoOf (leftTest (hasTop a) (s .top .first) (c .top .count) || leftTest (hasBottom a) (s .bottom .first) (c .bottom .count))
+    crossing (leftTest (hasTop a) (s .top .first) (c .top .count) || leftTest (hasBottom a) (s .bottom .first) (c .bottom .count))
     (hereTest (hasTop a) (c .top) (s .net) || hereTest (hasBottom a) (c .bottom) (s .net))
     (ltb (c .top .count) (s .top .last) || ltb (c .bottom .count) (s .bottom .last))
 

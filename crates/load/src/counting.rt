@@ -5,7 +5,8 @@ ghost use mathlib.Core.Path.{_≡_};
 ghost use mathlib.Core.Bool.{cond};
 ghost use Prim.Native.Nat.{_+_, _≤_, _<_};
 ghost use lib.ListN.{length};
-ghost use Rattle.load.specs.Counts.{standOf, twoOf, withNet, loadsAt};
+ghost use Rattle.channel.specs.Density.{crossing};
+ghost use Rattle.load.specs.Counts.{standOf, withNet, loadsAt};
 
 // Of one side: how many pins stand at or left of the column, and the net of the last of them.
 pub struct Stand {
@@ -41,9 +42,9 @@ pub fn stand_at(ns: &[u16], i: usize) -> Stand
     }
 }
 
-// At least two of three: left of the column, in it, right of it.
+// Whether a net with pins left of the column, in it and right of it, or not, crosses it.
 fn crosses(left: bool, here: bool, right: bool) -> bool
-    ensures { λ r. ⌜ r ≡ twoOf left here right ⌝ }
+    ensures { λ r. ⌜ r ≡ crossing left here right ⌝ }
 {
     (left | here) & ((here | right) & (left | right))
 }

@@ -13,7 +13,8 @@ use lib.Seq.{take-suc, take-suc-set, take-all, take-at, getD-set-same, getD-set-
 use lib.Dec.{leb, ltb, eqb}
 use borrow.Author.Tests.{leb-true, leb-false, le-leb, ltb-true, ltb-false, lt-ltb, le-ltb}
 use Rattle.channel.specs.Density.{any, Pin, maximumTo}
-use Rattle.channel.specs.Spans.{endFrom, sumLast}
+use Rattle.channel.proofs.Spans.{spans-from}
+use Rattle.channel.specs.Spans.{endFrom, sumLast, leftmost, rightmost}
 use Rattle.channel.specs.Sheet.{Terminal}
 use Rattle.channel.specs.Cut.{nets}
 use Rattle.sheet.specs.declared.Record.{Record}
@@ -113,19 +114,20 @@ added-all a b before now added c = added c ∙ ap (λ (t : Bool). getD before c 
 
 -- one net is counted where it crosses: from its leftmost to its rightmost pin, if they differ
 module _ (ps : List Pin) (n : ℕ) (span : Span) (answer : span ≡ spanOf n ps) (before : List ℕ) where
+  by-ends : (c : ℕ) → netSpans ps c n ≡ (ltb (span .left) (span .right) && within (span .left) (span .right) c)
+  by-ends c = spans-from (leftmost n ps) (rightmost n ps) c ∙ rw answer
+
   pub counted :
       (after : List ℕ) → span .left < span .right → Added (within (span .left) (span .right)) before after
       → Added (λ (c : ℕ). netSpans ps c n) before after
   counted after h added c =
-      added c
-      ∙ ap (λ (t : Bool). getD before c 0 + cond (t && within (span .left) (span .right) c) 1 0) (sym (lt-ltb (span .left) (span .right) h))
-      ∙ rw answer
+      let inside : netSpans ps c n ≡ within (span .left) (span .right) c = by-ends c ∙ rw (lt-ltb (span .left) (span .right) h) in
+      added c ∙ ap (λ (t : Bool). getD before c 0 + cond t 1 0) (sym inside)
 
   pub uncounted : span .right ≤ span .left → Added (λ (c : ℕ). netSpans ps c n) before before
   uncounted h c =
-      sym
-      (ap (λ (s : Span). getD before c 0 + cond (ltb (s .left) (s .right) && within (s .left) (s .right) c) 1 0) (sym answer)
-      ∙ rw (le-ltb (span .left) (span .right) h, add-zero))
+      let none : netSpans ps c n ≡ false = by-ends c ∙ rw (le-ltb (span .left) (span .right) h) in
+      sym (ap (λ (t : Bool). getD before c 0 + cond t 1 0) none ∙ add-zero (getD before c 0))
 
 -- the counts of the nets passed, with those that the i-th and later ones still add, are the crossings
 abbrev pub Counted : List ℕ → List ℕ → ℕ → List ℕ → Type 0
