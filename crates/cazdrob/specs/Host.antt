@@ -4,16 +4,16 @@ use Prim.Native.Nat.{ℕ}
 use mathlib.Core.Path.{_≡_}
 use mathlib.Core.List.{List}
 use lib.ListN.{length}
-use Rattle.sheet.specs.declared.Checked.{Checked}
-use Rattle.sheet.specs.declared.Checked.the-variants.{Sound, Refused}
-use Rattle.sheet.specs.Refusals as sheet
+use Rattle.terminal.specs.Refusals as terminal
+use Rattle.soundness.specs.declared.Checked.{Checked}
+use Rattle.soundness.specs.declared.Checked.the-variants.{Sound, Refused}
 use Rattle.measure.specs.Answer as measure
 use Rattle.search.specs.Answer as search
 
 -- the number of a sheet's refusal; 0 for a sound sheet
 abbrev pub checkNumber : Checked → ℕ
 checkNumber Sound = 0
-checkNumber (Refused why) = sheet.numberOf why
+checkNumber (Refused why) = terminal.numberOf why
 
 -- the promise of a measurement: its number, and the density it leaves
 pub record HostMeasures (bytes columns : List ℕ) (density' r : ℕ) : Type 0 where

@@ -1,8 +1,8 @@
 // The library's face for hosts: C functions that answer with document 01's numbers. include/cazdrob.h declares them. None asks
 // anything of its caller but what the types of its parameters say.
-use sheet::Checked;
+use soundness::Checked;
 ghost use mathlib.Core.Path.{_≡_};
-ghost use Rattle.sheet.specs.Check.{checkOf};
+ghost use Rattle.soundness.specs.Check.{checkOf};
 ghost use Rattle.sheet.specs.Parts.{shapeOf};
 ghost use Rattle.cazdrob.specs.Host.{checkNumber, HostMeasures, HostSearches};
 
@@ -11,10 +11,10 @@ ghost use Rattle.cazdrob.specs.Host.{checkNumber, HostMeasures, HostSear
 pub extern "C" fn cazdrob_check(s: &[u8]) -> u32
     ensures { λ r. ⌜ r ≡ checkNumber (checkOf (now (s .entry))) ⌝ }
 {
-    let checked = sheet::check(s);
+    let checked = soundness::check(s);
     match checked {
         Checked::Sound => 0,
-        Checked::Refused(why) => wide(sheet::number_of(why)),
+        Checked::Refused(why) => wide(terminal::number_of(why)),
     }
 }
 

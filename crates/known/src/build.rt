@@ -1,5 +1,5 @@
 // Sheets made at the start of a lent page, top section first. What does not fit in the page is left out.
-use sheet::Record;
+use terminal::Record;
 
 // Room for 65 terminals and the trailer.
 const PAGE: usize = 800;

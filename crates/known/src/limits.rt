@@ -25,7 +25,7 @@ fn limit(name: &[u8], s: &[u8], needed: Room, tally: Tally) -> Tally
     requires { ⌜ (needed .bytes ≤ 64) × (needed .cells ≤ 274625) ⌝ }
 {
     show::text(name);
-    show::checked(b", checked", sheet::check(s));
+    show::checked(b", checked", soundness::check(s));
     show::text(name);
     trial::search(b", searched", s, needed, tally)
 }

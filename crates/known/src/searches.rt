@@ -5,7 +5,7 @@ use crate::build::later;
 use crate::trial;
 use crate::trial::Tally;
 use crate::trial::buffers;
-use sheet::Record;
+use terminal::Record;
 ghost use Prim.Native.Nat.{_≤_};
 
 pub fn sheets(tally: Tally) -> Tally {

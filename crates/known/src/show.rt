@@ -3,8 +3,8 @@ use crate::trial::Columns;
 use libc::STDOUT_FILENO;
 use measure::Measured;
 use search::Searched;
-use sheet::Checked;
-use sheet::number_of;
+use soundness::Checked;
+use terminal::number_of;
 
 pub fn text(t: &[u8]) {
     io::write_all(STDOUT_FILENO, t);

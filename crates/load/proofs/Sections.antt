@@ -9,9 +9,9 @@ use lib.ListN.{length, getD, take, drop, length-map, length-append}
 use lib.Seq.{take-all, take-at, drop-at, paste}
 use Rattle.channel.specs.Sheet.{Terminal}
 use Rattle.channel.specs.Cut.{nets}
+use Rattle.terminal.specs.declared.Record.{Record}
 use Rattle.sheet.specs.declared.Entry.{Entry}
 use Rattle.sheet.specs.declared.Entry.the-variants.{Terminal as Found, Nothing}
-use Rattle.sheet.specs.declared.Record.{Record}
 use Rattle.sheet.specs.Parts.{nth, terminalsIn, entryIn}
 use Rattle.sheet.proofs.Laws.{entry-in}
 use Rattle.load.specs.Cuts.{netsIn, AllLoads}

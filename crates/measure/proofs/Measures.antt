@@ -14,13 +14,14 @@ use Rattle.channel.specs.Density.{Pin, pins, maximumTo, density}
 use Rattle.channel.specs.Cut.{nets}
 use Rattle.channel.specs.Spans.{Below, sumLast}
 use Rattle.channel.proofs.Spans.{density-spans}
+use Rattle.terminal.specs.declared.Refusal.{Refusal}
+use Rattle.soundness.specs.Read.{sheetOf}
 use Rattle.sheet.specs.declared.Layout.{Layout}
 use Rattle.sheet.specs.declared.Opened.the-variants as opened
-use Rattle.sheet.specs.declared.Refusal.{Refusal}
 use Rattle.sheet.specs.declared.Shape.{Shape}
-use Rattle.sheet.specs.Read.{sheetOf}
 use Rattle.sheet.specs.Parts.{openedOf, bytesOf, terminalsIn}
-use Rattle.sheet.proofs.Laws.{read-sound, opened-refused, Opens, opens}
+use Rattle.soundness.proofs.Laws.{read-sound}
+use Rattle.sheet.proofs.Laws.{opened-refused, Opens, opens}
 use Rattle.measure.specs.declared.Measured.{Measured}
 use Rattle.measure.specs.declared.Measured.the-variants.{Density, Sheet as Unsound, Count, Allowed, Distance}
 use Rattle.measure.specs.Answer.{sideAllowed, allAllowed, sideKept, distancesKept, unless, listMeasured, sheetMeasured, measuredOf}

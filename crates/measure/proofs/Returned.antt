@@ -13,9 +13,9 @@ use Rattle.channel.specs.Sheet.{Terminal, Sheet}
 use Rattle.channel.specs.Assignment.{allows, inRange, laterFit, sideFits, fits, topColumns, bottomColumns, assignment?}
 use Rattle.channel.specs.Density.{density}
 use Rattle.channel.proofs.Assignments.{fits-lengths}
-use Rattle.sheet.specs.Read.{read}
-use Rattle.sheet.specs.Read.Read.{sound, refused}
-use Rattle.sheet.proofs.Laws.{read-checked, read-refused}
+use Rattle.soundness.specs.Read.{read}
+use Rattle.soundness.specs.Read.Read.{sound, refused}
+use Rattle.soundness.proofs.Laws.{read-checked, read-refused}
 use Rattle.measure.specs.declared.Measured.{Measured}
 use Rattle.measure.specs.declared.Measured.the-variants.{Density, Sheet as Unsound, Count, Allowed, Distance}
 use Rattle.measure.specs.Answer.{sideAllowed, allAllowed, laterKept, sideKept, distancesKept, unless, listMeasured, sheetMeasured, measuredOf, numberOf, densityOf}

@@ -11,8 +11,8 @@ use lib.Seq.{drop-cons}
 use lib.Dec.{eqb}
 use Rattle.channel.specs.Sheet.{Terminal}
 use Rattle.channel.specs.Assignment.{allows, inRange}
-use Rattle.sheet.specs.declared.Record.{Record}
-use Rattle.sheet.specs.Format.{recordOf}
+use Rattle.terminal.specs.declared.Record.{Record}
+use Rattle.terminal.specs.Terminal.{recordOf}
 use Rattle.sheet.specs.Parts.{nth, terminalsIn, entryIn}
 use Rattle.sheet.proofs.Laws.{entry-in}
 use Rattle.measure.specs.Answer.{sideAllowed, laterKept, sideKept}

@@ -17,7 +17,7 @@ use Rattle.channel.proofs.Spans.{spans-from}
 use Rattle.channel.specs.Spans.{endFrom, sumLast, leftmost, rightmost}
 use Rattle.channel.specs.Sheet.{Terminal}
 use Rattle.channel.specs.Cut.{nets}
-use Rattle.sheet.specs.declared.Record.{Record}
+use Rattle.terminal.specs.declared.Record.{Record}
 use Rattle.sheet.specs.Parts.{terminalsIn, entryIn}
 use Rattle.measure.specs.declared.count.Span.{Span}
 use Rattle.measure.specs.Inner.{recordOr, pinsOf, spanOf, netSpans, countedAt, Added, Small, within}

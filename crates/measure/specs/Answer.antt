@@ -8,11 +8,11 @@ use lib.Dec.{eqb}
 use Rattle.channel.specs.Sheet.{Terminal, Sheet}
 use Rattle.channel.specs.Assignment.{allows, inRange, topColumns, bottomColumns}
 use Rattle.channel.specs.Density.{density}
-use Rattle.sheet.specs.declared.Checked.{Checked}
-use Rattle.sheet.specs.declared.Checked.the-variants.{Sound, Refused}
-use Rattle.sheet.specs.Refusals as sheet
-use Rattle.sheet.specs.Check.{checkOf}
-use Rattle.sheet.specs.Read.{sheetOf}
+use Rattle.terminal.specs.Refusals as terminal
+use Rattle.soundness.specs.declared.Checked.{Checked}
+use Rattle.soundness.specs.declared.Checked.the-variants.{Sound, Refused}
+use Rattle.soundness.specs.Check.{checkOf}
+use Rattle.soundness.specs.Read.{sheetOf}
 use Rattle.measure.specs.declared.Measured.{Measured}
 use Rattle.measure.specs.declared.Measured.the-variants.{Density, Sheet as Unsound, Count, Allowed, Distance}
 
@@ -70,7 +70,7 @@ measuredOf b cs = measuredAs (sheetOf b) cs (checkOf b)
 -- the number of each refusal; 0 with a density
 abbrev pub numberOf : Measured → ℕ
 numberOf (Density d) = 0
-numberOf (Unsound why) = sheet.numberOf why
+numberOf (Unsound why) = terminal.numberOf why
 numberOf Count = 12
 numberOf Allowed = 13
 numberOf Distance = 14

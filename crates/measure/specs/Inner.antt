@@ -9,9 +9,9 @@ use lib.Dec.{leb, eqb}
 use Rattle.channel.specs.Sheet.{Terminal, Sheet}
 use Rattle.channel.specs.Density.{Pin}
 use Rattle.channel.specs.Spans.{leftmost, rightmost, spans, sumLast}
+use Rattle.terminal.specs.declared.Record.{Record}
 use Rattle.sheet.specs.declared.Entry.{Entry}
 use Rattle.sheet.specs.declared.Entry.the-variants.{Terminal as Found, Nothing}
-use Rattle.sheet.specs.declared.Record.{Record}
 use Rattle.sheet.specs.Parts.{terminalsIn}
 use Rattle.measure.specs.declared.count.Span.{Span}
 

@@ -9,8 +9,8 @@ use lib.ListN.{length}
 use Rattle.channel.specs.Sheet.{Sheet}
 use Rattle.channel.specs.Assignment.{assignment?}
 use Rattle.channel.specs.Density.{density}
-use Rattle.sheet.specs.Read.{read}
-use Rattle.sheet.specs.Read.Read.{sound, refused}
+use Rattle.soundness.specs.Read.{read}
+use Rattle.soundness.specs.Read.Read.{sound, refused}
 use Rattle.measure.specs.Answer.{allAllowed, distancesKept}
 
 -- "a list to measure is .. p+q long"

@@ -9,7 +9,7 @@ pub fn number_of(answer: Measured) -> u8
 {
     match answer {
         Measured::Density(_) => 0,
-        Measured::Sheet(why) => sheet::number_of(why),
+        Measured::Sheet(why) => terminal::number_of(why),
         Measured::Count => 12,
         Measured::Allowed => 13,
         Measured::Distance => 14,

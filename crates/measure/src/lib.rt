@@ -10,7 +10,7 @@ use count::list_density;
 use rules::all_allowed;
 use rules::out_of_range;
 use sheet::Opened;
-use sheet::Refusal;
+use terminal::Refusal;
 ghost use mathlib.Core.Path.{_≡_};
 ghost use Rattle.sheet.specs.Parts.{terminalsIn};
 ghost use Rattle.measure.specs.Answer.{measuredOf, listMeasured};

@@ -1,6 +1,6 @@
 // What 13 and 14 ask of a list as long as the terminals.
 use sheet::Entry;
-use sheet::Record;
+use terminal::Record;
 ghost use mathlib.Core.Path.{_≡_};
 ghost use mathlib.Core.Bool.{not, _&&_};
 ghost use lib.ListN.{length};
@@ -32,7 +32,7 @@ pub fn all_allowed(part: &[u8], columns: &[u8]) -> bool
     let mut i = 0;
     while i < columns.len() {
         let r = terminal_at(part, i + 1);
-        if !sheet::allows(r.allowed, columns[i]) {
+        if !terminal::allows(r.allowed, columns[i]) {
             return false;
         }
         i += 1;
@@ -65,7 +65,7 @@ pub fn out_of_range<'a, 'b>(
         let mut i = 1;
         while i < columns.len() {
             let r = terminal_at(part, i + 1);
-            if !sheet::in_range(columns[i - 1], columns[i], r.least, r.greatest) {
+            if !terminal::in_range(columns[i - 1], columns[i], r.least, r.greatest) {
                 found = true;
                 break 'scan;
             }

@@ -7,14 +7,14 @@ use mathlib.Core.List.{List, [], _∷_, _++_}
 use native.Mathlib.Omega.{arith}
 use lib.ListN.{length, length-append, take}
 use Rattle.channel.specs.Sheet.{Terminal, Sheet}
+use Rattle.soundness.specs.declared.Side.{Side}
+use Rattle.soundness.specs.declared.Side.the-variants.{Top, Bottom}
+use Rattle.soundness.specs.Read.{Read, read}
+use Rattle.soundness.specs.Read.Read.{sound, refused}
 use Rattle.sheet.specs.declared.Cursor.{Cursor}
-use Rattle.sheet.specs.declared.Side.{Side}
-use Rattle.sheet.specs.declared.Side.the-variants.{Top, Bottom}
 use Rattle.sheet.specs.declared.Step.{Step}
 use Rattle.sheet.specs.declared.Step.the-variants.{Finished}
 use Rattle.sheet.specs.declared.Visit.{Visit}
-use Rattle.sheet.specs.Read.{Read, read}
-use Rattle.sheet.specs.Read.Read.{sound, refused}
 use Rattle.sheet.specs.Walk.{visits, walk, stepIn, stepAs}
 use Rattle.sheet.proofs.Laws.{walk-of, step-of}
 use Rattle.reader.specs.Reader.{stepAt, passedAfter}

@@ -5,12 +5,12 @@ use mathlib.Core.Path.{_≡_}
 use mathlib.Core.List.{List, [], _∷_, _++_}
 use lib.ListN.{length, take}
 use Rattle.channel.specs.Sheet.{Sheet}
-use Rattle.sheet.specs.declared.Side.the-variants.{Top, Bottom}
+use Rattle.soundness.specs.declared.Side.the-variants.{Top, Bottom}
+use Rattle.soundness.specs.Read.{Read}
+use Rattle.soundness.specs.Read.Read.{sound, refused}
 use Rattle.sheet.specs.declared.Step.{Step}
 use Rattle.sheet.specs.declared.Step.the-variants.{Terminal, Finished}
 use Rattle.sheet.specs.declared.Visit.{Visit}
-use Rattle.sheet.specs.Read.{Read}
-use Rattle.sheet.specs.Read.Read.{sound, refused}
 use Rattle.sheet.specs.Walk.{visits}
 use Rattle.reader.specs.Reader.{stepAt, passedAfter}
 

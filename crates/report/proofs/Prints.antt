@@ -9,7 +9,7 @@ use lib.ListN.{length, take, drop, length-append}
 use lib.Seq.{sets-eq}
 use borrow.Author.Tests.{lt-ltb, le-ltb}
 use Rattle.channel.specs.Sheet.{Sheet}
-use Rattle.sheet.specs.Read.{sheetOf}
+use Rattle.soundness.specs.Read.{sheetOf}
 use Rattle.sheet.specs.Parts.{shapeOf}
 use Rattle.sheet.proofs.Laws.{shape-read}
 use Rattle.search.specs.declared.Searched.{Searched}

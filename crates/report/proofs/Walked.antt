@@ -12,17 +12,18 @@ use Rattle.channel.specs.Sheet.{Terminal, Sheet}
 use Rattle.sheet.specs.declared.Entry.{Entry}
 use Rattle.sheet.specs.declared.Layout.{Layout}
 use Rattle.sheet.specs.declared.Opened.the-variants as opened
-use Rattle.sheet.specs.declared.Refusal.{Refusal}
+use Rattle.terminal.specs.declared.Refusal.{Refusal}
 use Rattle.sheet.specs.declared.Shape.{Shape}
-use Rattle.sheet.specs.declared.Side.{Side}
-use Rattle.sheet.specs.declared.Side.the-variants.{Top, Bottom}
+use Rattle.soundness.specs.declared.Side.{Side}
+use Rattle.soundness.specs.declared.Side.the-variants.{Top, Bottom}
 use Rattle.sheet.specs.declared.Visit.{Visit}
-use Rattle.sheet.specs.Format.{recordOf}
-use Rattle.sheet.specs.Read.{Read, sheetOf, read}
-use Rattle.sheet.specs.Read.Read.{sound, refused}
+use Rattle.terminal.specs.Terminal.{recordOf}
+use Rattle.soundness.specs.Read.{Read, sheetOf, read}
+use Rattle.soundness.specs.Read.Read.{sound, refused}
 use Rattle.sheet.specs.Parts.{shapeOf, nth, entryOf, openedOf, bytesOf, terminalsIn, entryIn}
 use Rattle.sheet.specs.Walk.{visits}
-use Rattle.sheet.proofs.Laws.{read-checked, opened-refused, shape-read, entry-in, walk-of, Opens, opens}
+use Rattle.soundness.proofs.Laws.{read-checked}
+use Rattle.sheet.proofs.Laws.{opened-refused, shape-read, entry-in, walk-of, Opens, opens}
 use Rattle.report.specs.Text.{line, lines}
 use Rattle.report.specs.Writing.{entryLine, walkAs, walkOf}
 

@@ -9,7 +9,7 @@ use lib.Dec.{ltb}
 use Rattle.channel.specs.Sheet.{Sheet}
 use Rattle.channel.specs.Best.{Found, best}
 use Rattle.channel.specs.Best.Found.{none, found}
-use Rattle.sheet.specs.Read.{sheetOf}
+use Rattle.soundness.specs.Read.{sheetOf}
 use Rattle.sheet.specs.Walk.{walk}
 use Rattle.search.specs.declared.Searched.{Searched}
 use Rattle.search.specs.declared.Searched.the-variants as searched

@@ -2,8 +2,8 @@
 -- Assumes nothing.
 use Prim.Native.Nat.{ℕ}
 use mathlib.Core.List.{List, [], _∷_, _++_}
-use Rattle.sheet.specs.declared.Side.{Side}
-use Rattle.sheet.specs.declared.Side.the-variants.{Top, Bottom}
+use Rattle.soundness.specs.declared.Side.{Side}
+use Rattle.soundness.specs.declared.Side.the-variants.{Top, Bottom}
 use Rattle.sheet.specs.declared.Visit.{Visit}
 use Rattle.text.specs.Digits as text
 

@@ -4,10 +4,10 @@ use Prim.Native.Nat.{ℕ}
 use mathlib.Core.List.{List, []}
 use Rattle.sheet.specs.declared.Entry.{Entry}
 use Rattle.sheet.specs.declared.Entry.the-variants.{Terminal, Nothing}
-use Rattle.sheet.specs.declared.Side.{Side}
+use Rattle.soundness.specs.declared.Side.{Side}
 use Rattle.sheet.specs.declared.Visit.{Visit}
-use Rattle.sheet.specs.Read.{Read, read}
-use Rattle.sheet.specs.Read.Read.{sound, refused}
+use Rattle.soundness.specs.Read.{Read, read}
+use Rattle.soundness.specs.Read.Read.{sound, refused}
 use Rattle.sheet.specs.Walk.{walk}
 use Rattle.report.specs.Text.{line}
 

@@ -4,7 +4,7 @@ mod lines;
 use lines::put_side;
 use sheet::Layout;
 use sheet::Opened;
-use sheet::Side;
+use soundness::Side;
 use text::put_byte;
 use text::put_field;
 ghost use mathlib.Core.Path.{_≡_};

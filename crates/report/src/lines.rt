@@ -1,8 +1,8 @@
 // The lines of an assignment's terminals.
 use crate::DIGITS;
 use sheet::Entry;
-use sheet::Side;
 use sheet::Visit;
+use soundness::Side;
 use text::put_byte;
 use text::put_field;
 ghost use mathlib.Core.Path.{_≡_};

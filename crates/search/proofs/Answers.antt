@@ -9,14 +9,15 @@ use borrow.Author.Tests.{lt-ltb, le-ltb}
 use Rattle.channel.specs.Sheet.{Terminal, Sheet}
 use Rattle.channel.specs.Best.{Found, best}
 use Rattle.channel.specs.Best.Found.{none, found}
-use Rattle.sheet.specs.declared.Checked.{Checked}
+use Rattle.terminal.specs.declared.Refusal.{Refusal}
+use Rattle.soundness.specs.declared.Checked.{Checked}
+use Rattle.soundness.specs.Read.{sheetOf}
 use Rattle.sheet.specs.declared.Layout.{Layout}
 use Rattle.sheet.specs.declared.Opened.the-variants as opened
-use Rattle.sheet.specs.declared.Refusal.{Refusal}
 use Rattle.sheet.specs.declared.Shape.{Shape}
-use Rattle.sheet.specs.Read.{sheetOf}
 use Rattle.sheet.specs.Parts.{shape, openedOf, bytesOf, terminalsIn}
-use Rattle.sheet.proofs.Laws.{read-sound, opened-refused, Opens, opens}
+use Rattle.soundness.proofs.Laws.{read-sound}
+use Rattle.sheet.proofs.Laws.{opened-refused, Opens, opens}
 use Rattle.search.specs.declared.Searched.{Searched}
 use Rattle.search.specs.declared.Searched.the-variants as searched
 use Rattle.search.specs.declared.pass.Outcome.{Outcome}

@@ -15,15 +15,15 @@ use Rattle.channel.specs.Best.{Found, best, IsBest, Answers}
 use Rattle.channel.specs.Best.Found.{none, found}
 use Rattle.channel.proofs.Best.{best-answers}
 use Rattle.channel.proofs.Assignments.{fits-lengths}
-use Rattle.sheet.specs.declared.Checked.{Checked}
-use Rattle.sheet.specs.declared.Checked.the-variants as checked
-use Rattle.sheet.specs.declared.Refusal.{Refusal}
-use Rattle.sheet.specs.declared.Refusal.the-variants as refusal
-use Rattle.sheet.specs.Check.{checkOf}
-use Rattle.sheet.specs.Read.{read, sheetOf}
-use Rattle.sheet.specs.Read.Read.{sound}
-use Rattle.sheet.specs.Refusals as sheet
-use Rattle.sheet.proofs.Laws.{read-checked, read-sound, sound-read}
+use Rattle.terminal.specs.declared.Refusal.{Refusal}
+use Rattle.terminal.specs.declared.Refusal.the-variants as refusal
+use Rattle.terminal.specs.Refusals as terminal
+use Rattle.soundness.specs.declared.Checked.{Checked}
+use Rattle.soundness.specs.declared.Checked.the-variants as checked
+use Rattle.soundness.specs.Check.{checkOf}
+use Rattle.soundness.specs.Read.{read, sheetOf}
+use Rattle.soundness.specs.Read.Read.{sound}
+use Rattle.soundness.proofs.Laws.{read-checked, read-sound, sound-read}
 use Rattle.search.specs.declared.Searched.{Searched}
 use Rattle.search.specs.declared.Searched.the-variants as searched
 use Rattle.search.specs.Answer.{pinsNeeded, cellsNeeded, answerAs, answerIn, answerIf, searchedOf, columnsAfter, numberOf, densityOf, Searches}
@@ -117,7 +117,7 @@ module _ (b : List ℕ) (k m d : ℕ) where
   finds = by-check (checkOf b) refl
 
 -- an answer with the number 0 is a density
-sheet-number : (why : Refusal) → sheet.numberOf why ≡ 0 → ⊥
+sheet-number : (why : Refusal) → terminal.numberOf why ≡ 0 → ⊥
 sheet-number refusal.Short e = omega arith
 sheet-number refusal.Mark e = omega arith
 sheet-number refusal.Length e = omega arith

@@ -11,9 +11,9 @@ use Rattle.channel.specs.Sheet.{Sheet}
 use Rattle.channel.specs.Best.{Found, best, Answers}
 use Rattle.channel.specs.Best.Found.{none, found}
 use Rattle.channel.proofs.Best.{best-answers}
-use Rattle.sheet.specs.Read.{read, sheetOf}
-use Rattle.sheet.specs.Read.Read.{sound, refused}
-use Rattle.sheet.proofs.Laws.{read-sound, read-checked, read-refused}
+use Rattle.soundness.specs.Read.{read, sheetOf}
+use Rattle.soundness.specs.Read.Read.{sound, refused}
+use Rattle.soundness.proofs.Laws.{read-sound, read-checked, read-refused}
 use Rattle.search.specs.declared.Searched.{Searched}
 use Rattle.search.specs.declared.Searched.the-variants as searched
 use Rattle.search.specs.Answer.{pinsNeeded, cellsNeeded, answerAs, answerIn, searchedOf, columnsIf, columnsAfter, workIf, workAfter, numberOf, densityOf, Searches}

@@ -13,10 +13,10 @@ use borrow.Author.Tests.{le-leb, lt-leb, ltb-true, ltb-false, lt-ltb, le-ltb, eq
 use Rattle.channel.specs.Sheet.{Terminal}
 use Rattle.channel.specs.Assignment.{allows, inRange}
 use Rattle.channel.proofs.Sets.{allows-at}
-use Rattle.sheet.specs.declared.Record.{Record}
+use Rattle.terminal.specs.declared.Record.{Record}
+use Rattle.terminal.specs.Terminal.{recordOf}
 use Rattle.sheet.specs.declared.Entry.{Entry}
 use Rattle.sheet.specs.declared.Entry.the-variants.{Terminal as Found, Nothing}
-use Rattle.sheet.specs.Format.{recordOf}
 use Rattle.sheet.specs.Parts.{nth, terminalsIn, entryIn}
 use Rattle.sheet.proofs.Laws.{entry-at, entry-in, entry-there}
 use Rattle.reach.specs.Reach.{noTerminal, terminalOf}

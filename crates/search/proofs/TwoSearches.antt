@@ -13,7 +13,7 @@ use Rattle.channel.specs.Best.Found.{none, found}
 use Rattle.channel.specs.Pairs.{LeastKept}
 use Rattle.channel.proofs.Best.{best-answers}
 use Rattle.channel.proofs.Pairs.{least-kept}
-use Rattle.sheet.proofs.Laws.{read-sound}
+use Rattle.soundness.proofs.Laws.{read-sound}
 use Rattle.search.specs.declared.Searched.{Searched}
 use Rattle.search.specs.Answer.{numberOf, densityOf, Searches}
 use Rattle.search.specs.Returned.{LongEnough}

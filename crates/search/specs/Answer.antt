@@ -9,12 +9,12 @@ use lib.Dec.{ltb}
 use Rattle.channel.specs.Sheet.{Sheet}
 use Rattle.channel.specs.Best.{Found, best}
 use Rattle.channel.specs.Best.Found.{none, found}
-use Rattle.sheet.specs.declared.Checked.{Checked}
-use Rattle.sheet.specs.declared.Checked.the-variants.{Sound, Refused}
-use Rattle.sheet.specs.Check.{checkOf}
-use Rattle.sheet.specs.Read.{sheetOf}
+use Rattle.terminal.specs.Refusals as terminal
+use Rattle.soundness.specs.declared.Checked.{Checked}
+use Rattle.soundness.specs.declared.Checked.the-variants.{Sound, Refused}
+use Rattle.soundness.specs.Check.{checkOf}
+use Rattle.soundness.specs.Read.{sheetOf}
 use Rattle.sheet.specs.Parts.{cellsOf}
-use Rattle.sheet.specs.Refusals as sheet
 use Rattle.search.specs.declared.Searched.{Searched}
 use Rattle.search.specs.declared.Searched.the-variants as searched
 
@@ -78,7 +78,7 @@ workAfter bytes columns old = workIf (searchedOf bytes columns (length old)) (sh
 -- the number of an answer, 0 with a density
 abbrev pub numberOf : Searched → ℕ
 numberOf (searched.Found d) = 0
-numberOf (searched.Sheet why) = sheet.numberOf why
+numberOf (searched.Sheet why) = terminal.numberOf why
 numberOf searched.Columns = 9
 numberOf searched.Cells = 10
 numberOf searched.NoAssignment = 11

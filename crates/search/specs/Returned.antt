@@ -10,8 +10,8 @@ use lib.ListN.{length, take, drop}
 use Rattle.channel.specs.Sheet.{Sheet}
 use Rattle.channel.specs.Assignment.{assignment?}
 use Rattle.channel.specs.Best.{IsBest}
-use Rattle.sheet.specs.Read.{read}
-use Rattle.sheet.specs.Read.Read.{sound, refused}
+use Rattle.soundness.specs.Read.{read}
+use Rattle.soundness.specs.Read.Read.{sound, refused}
 use Rattle.search.specs.Answer.{pinsNeeded, cellsNeeded, cleared}
 
 -- refused with number n: "Each refusal carries density 0", "nothing written"

@@ -9,7 +9,7 @@ pub fn number_of(answer: Searched) -> u8
 {
     match answer {
         Searched::Found(_) => 0,
-        Searched::Sheet(why) => sheet::number_of(why),
+        Searched::Sheet(why) => terminal::number_of(why),
         Searched::Columns => 9,
         Searched::Cells => 10,
         Searched::NoAssignment => 11,

@@ -10,7 +10,7 @@ pub use answer::number_of;
 use pass::Outcome;
 use sheet::Layout;
 use sheet::Opened;
-use sheet::Refusal;
+use terminal::Refusal;
 ghost use mathlib.Core.Path.{_≡_};
 ghost use Rattle.sheet.specs.Parts.{openedOf};
 ghost use Rattle.search.specs.Answer.{Searches};

@@ -6,23 +6,23 @@ use mathlib.Core.List.{List, [], _∷_, _++_}
 use native.Mathlib.Omega.{arith}
 use lib.ListN.{length}
 use Rattle.channel.specs.Sheet.{Terminal, Sheet}
-use Rattle.sheet.specs.declared.Checked.the-variants.{Sound}
+use Rattle.soundness.specs.declared.Checked.the-variants.{Sound}
+use Rattle.soundness.specs.declared.Side.{Side}
+use Rattle.soundness.specs.declared.Side.the-variants.{Top, Bottom}
+use Rattle.soundness.specs.Format.{ofSide}
+use Rattle.soundness.specs.Check.{checkOf}
+use Rattle.soundness.specs.Read.{sheetOf, read}
+use Rattle.soundness.specs.Read.Read.{sound}
 use Rattle.sheet.specs.declared.Cursor.{Cursor}
 use Rattle.sheet.specs.declared.Entry.the-variants.{Nothing}
 use Rattle.sheet.specs.declared.Layout.{Layout}
 use Rattle.sheet.specs.declared.Opened.the-variants.{Sound as Laid}
-use Rattle.sheet.specs.declared.Side.{Side}
-use Rattle.sheet.specs.declared.Side.the-variants.{Top, Bottom}
-use Rattle.sheet.specs.Format.{ofSide}
-use Rattle.sheet.specs.Check.{checkOf}
-use Rattle.sheet.specs.Read.{sheetOf, read}
-use Rattle.sheet.specs.Read.Read.{sound}
-use Rattle.sheet.specs.Parts.{shape, shapeAs, shapeOf, layoutOf, openedOf, bytesOf, sectionOf, nth, entryOf, terminalsIn, entryIn}
+use Rattle.sheet.specs.Parts.{shape, shapeAs, shapeOf, openedOf, bytesOf, sectionOf, nth, entryOf, terminalsIn, entryIn}
 use Rattle.sheet.specs.Walk.{visits, walk, stepAs, stepOf}
+use Rattle.soundness.proofs.Laws.{sound-read}
 use Rattle.sheet.proofs.Sections.{opened-sound, layout-shape, sound-section}
--- a sheet that reads is sound; the check leaves just the sheets that read, and what it refuses neither reads nor opens
-pub use Rattle.sheet.proofs.Sounds.{read-sound, read-checked, read-refused}
-pub use Rattle.sheet.proofs.Sections.{sound-read, opened-refused}
+-- what the check refuses does not open
+pub use Rattle.sheet.proofs.Sections.{opened-refused}
 -- a section's terminals are those of its side; and places count from 1
 pub use Rattle.sheet.proofs.Sections.{section-terminals, entry-at}
 

@@ -1,47 +1,42 @@
 -- Laws of the parts of a sheet: a record of a section is that record of the sheet, and how many records there are.
 -- Assumes nothing.
 use Prim.Native.Nat.{ℕ, zero, suc, _+_, _-_, _*_, _/_, _≤_, _<_, min}
-use mathlib.Core.Path.{_≡_, refl, sym, _∙_, ap, ap₂}
+use mathlib.Core.Path.{_≡_, refl, sym, _∙_, ap}
 use mathlib.Core.List.{List, [], _∷_}
 use mathlib.Core.Bool.{Bool, true, false}
 use native.Mathlib.Omega.{arith}
 use native.Mathlib.Nat.{add-zero, zero-add, mul-div-right, min-eq-left}
-use lib.ListN.{length, getD, take, drop, length-drop, drop-of-length-le}
-use lib.Seq.{getD-take, getD-drop, length-take-le, take-all}
+use lib.ListN.{length, take, drop, length-drop, drop-of-length-le}
+use lib.Seq.{length-take-le, take-all}
 use lib.Dec.{ltb}
 use borrow.Author.Tests.{ltb-true, ltb-false}
 use Rattle.channel.specs.Sheet.{Terminal, Sheet, terminals}
-use Rattle.sheet.specs.declared.Checked.{Checked}
-use Rattle.sheet.specs.declared.Checked.the-variants.{Sound, Refused}
-use Rattle.sheet.specs.declared.Refusal.{Refusal}
+use Rattle.terminal.specs.declared.Refusal.{Refusal}
+use Rattle.terminal.specs.Terminal.{recordOf}
+use Rattle.soundness.specs.declared.Checked.{Checked}
+use Rattle.soundness.specs.declared.Checked.the-variants.{Sound, Refused}
+use Rattle.soundness.specs.declared.Part.{Part}
+use Rattle.soundness.specs.declared.Trailer.{Trailer}
+use Rattle.soundness.specs.declared.Side.{Side}
+use Rattle.soundness.specs.declared.Side.the-variants.{Top, Bottom}
+use Rattle.soundness.specs.Format.{recordSize, terminalAt, terminalsFrom, trailerOf, ofSide, partOf}
+use Rattle.soundness.specs.Check.{terminalsOf, checkOf}
+use Rattle.soundness.specs.Read.{Read, sheetOf, read}
+use Rattle.soundness.specs.Read.Read.{sound, refused}
 use Rattle.sheet.specs.declared.Entry.the-variants.{Terminal as Found, Nothing}
 use Rattle.sheet.specs.declared.Layout.{Layout}
-use Rattle.sheet.specs.declared.Opened.{Opened}
 use Rattle.sheet.specs.declared.Opened.the-variants.{Sound as Laid, Refused as Unsound}
-use Rattle.sheet.specs.declared.Part.{Part}
-use Rattle.sheet.specs.declared.format.Trailer.{Trailer}
-use Rattle.sheet.specs.declared.Side.{Side}
-use Rattle.sheet.specs.declared.Side.the-variants.{Top, Bottom}
-use Rattle.sheet.specs.Refusals.{numberOf}
-use Rattle.sheet.specs.Format.{little, recordOf, terminalAt, terminalsFrom, trailerOf, ofSide, partOf}
-use Rattle.sheet.specs.Check.{terminalsOf, checkOf}
-use Rattle.sheet.specs.Read.{Read, readAs, sheetOf, read}
-use Rattle.sheet.specs.Read.Read.{sound, refused}
 use Rattle.sheet.specs.Parts.{noShape, shape, shapeOf, layoutOf, openedAs, openedOf, bytesOf, offsetOf, sectionOf, sectionAt, nth, entryOf, terminalsIn, entryIn, sideOf, entryAs, entryAt}
-use Rattle.sheet.proofs.Checks.{Formed, whole}
+use Rattle.soundness.proofs.Records.{length-terminals, terminals-part}
+use Rattle.soundness.proofs.Checks.{Formed, whole}
+use Rattle.soundness.proofs.Laws.{sound-read, refused-read}
 
--- there are as many records as asked for
-pub length-terminals : (b : List ℕ) (i n : ℕ) → length (terminalsFrom b i n) ≡ n
-unfolding terminalsFrom
-length-terminals b i zero = refl
-length-terminals b i (suc n) = ap suc (length-terminals b (i + 12) n)
-
--- the k-th record stands at 12 k
-pub nth-terminal : (b : List ℕ) (i n k : ℕ) → k < n → nth (terminalsFrom b i n) k ≡ Found (recordOf (terminalAt b (i + 12 * k)))
+-- the k-th record stands behind k records
+pub nth-terminal : (b : List ℕ) (i n k : ℕ) → k < n → nth (terminalsFrom b i n) k ≡ Found (recordOf (terminalAt b (i + recordSize * k)))
 unfolding terminalsFrom
 nth-terminal b i (suc n) zero h = ap (λ (j : ℕ). Found (recordOf (terminalAt b j))) (omega arith)
 nth-terminal b i (suc n) (suc k) h =
-    nth-terminal b (i + 12) n k (omega arith) ∙ ap (λ (j : ℕ). Found (recordOf (terminalAt b j))) (omega arith)
+    nth-terminal b (i + recordSize) n k (omega arith) ∙ ap (λ (j : ℕ). Found (recordOf (terminalAt b j))) (omega arith)
 
 pub nth-past : (ts : List Terminal) (k : ℕ) → length ts ≤ k → nth ts k ≡ Nothing
 nth-past [] k h = refl
@@ -52,54 +47,21 @@ pub entry-at : (ts : List Terminal) (place : ℕ) → (place ≡ 0 → ⊥) → 
 entry-at ts zero h = absurd (h refl)
 entry-at ts (suc k) h = ap (nth ts) (omega arith)
 
--- a number, a record and records that lie in a part of the bytes
-module _ (b : List ℕ) (m a : ℕ) where
-  byte-part : (i : ℕ) → i < m → getD (take m (drop a b)) i 0 ≡ getD b (a + i) 0
-  byte-part i h = getD-take m (drop a b) i 0 h ∙ getD-drop a b i 0
-
-  little-part : (n i : ℕ) → i + n ≤ m → little n (take m (drop a b)) i ≡ little n b (a + i)
-  unfolding little
-  little-part zero i h = refl
-  little-part (suc n) i h =
-      ap₂ (λ (x y : ℕ). x + 256 * y) (byte-part i (omega arith))
-      (little-part n (suc i) (omega arith) ∙ ap (little n b) (omega arith))
-
-  terminal-part : (i : ℕ) → i + 12 ≤ m → terminalAt (take m (drop a b)) i ≡ terminalAt b (a + i)
-  unfolding terminalAt
-  terminal-part i h =
-      let at : (k : ℕ) → a + (i + k) ≡ a + i + k = λ k. omega arith in
-      let byte : (k : ℕ) → i + k < m → getD (take m (drop a b)) (i + k) 0 ≡ getD b (a + i + k) 0
-      = λ k g. byte-part (i + k) g ∙ ap (λ (j : ℕ). getD b j 0) (at k) in
-      rw (
-        little-part 2 i (omega arith),
-        byte 2 (omega arith),
-        byte 3 (omega arith),
-        little-part 8 (i + 4) (omega arith),
-        at 4,
-      )
-
-  terminals-part : (n i : ℕ) → i + 12 * n ≤ m → terminalsFrom (take m (drop a b)) i n ≡ terminalsFrom b (a + i) n
-  unfolding terminalsFrom
-  terminals-part zero i h = refl
-  terminals-part (suc n) i h =
-      ap₂ (λ (t : Terminal) (ts : List Terminal). t ∷ ts) (terminal-part i (omega arith))
-      (terminals-part n (i + 12) (omega arith) ∙ ap (λ (j : ℕ). terminalsFrom b j n) (omega arith))
-
 -- the records of a part's bytes are the part's
 pub terminals-in-part :
-    (b : List ℕ) (part : Part) → part .at + 12 * part .count ≤ length b → terminalsIn (bytesOf b part) ≡ terminalsOf b part
+    (b : List ℕ) (part : Part) → part .at + recordSize * part .count ≤ length b → terminalsIn (bytesOf b part) ≡ terminalsOf b part
 unfolding terminalsIn bytesOf
 terminals-in-part b part h =
-    let size : length (bytesOf b part) ≡ 12 * part .count = length-take-le _ _ (rw (length-drop) (omega arith)) in
-    let count : length (bytesOf b part) / 12 ≡ part .count = ap (λ (n : ℕ). n / 12) size ∙ mul-div-right (part .count) (omega arith) in
+    let size : length (bytesOf b part) ≡ recordSize * part .count = length-take-le _ _ (rw (length-drop) (omega arith)) in
+    let count : length (bytesOf b part) / recordSize ≡ part .count = ap (λ (n : ℕ). n / recordSize) size ∙ mul-div-right (part .count) (omega arith) in
     ap (terminalsFrom (bytesOf b part) 0) count
-    ∙ terminals-part b (12 * part .count) (part .at) (part .count) 0 (omega arith)
+    ∙ terminals-part b (recordSize * part .count) (part .at) (part .count) 0 (omega arith)
     ∙ ap (λ (j : ℕ). terminalsFrom b j (part .count)) (add-zero (part .at))
 
 -- as many of any bytes as there is room for
-pub length-terminals-in : (b : List ℕ) → length b / 12 ≡ length (terminalsIn b)
+pub length-terminals-in : (b : List ℕ) → length b / recordSize ≡ length (terminalsIn b)
 unfolding terminalsIn
-length-terminals-in b = sym (length-terminals b 0 (length b / 12))
+length-terminals-in b = sym (length-terminals b 0 (length b / recordSize))
 
 -- a list is taken whole by any number from its length on
 take-past : (l : List ℕ) (m n : ℕ) → min m (length l) ≡ min n (length l) → take m l ≡ take n l
@@ -111,44 +73,40 @@ take-past (x ∷ l) (suc m) (suc n) h = ap (λ (r : List ℕ). x ∷ r) (take-pa
 
 -- a part that is cut off at the end of the bytes: so many of them, from where it starts
 pub part-cut :
-    (b : List ℕ) (part : Part) (at end : ℕ) → at ≡ min (part .at) (length b) → end ≡ min (at + 12 * part .count) (length b)
+    (b : List ℕ) (part : Part) (at end : ℕ) → at ≡ min (part .at) (length b) → end ≡ min (at + recordSize * part .count) (length b)
     → take (end - at) (drop at b) ≡ bytesOf b part
 unfolding bytesOf
 part-cut b part at end e f = by-test (ltb (part .at) (length b)) refl
   where
-    inside : part .at ≤ length b → take (end - at) (drop at b) ≡ take (12 * part .count) (drop (part .at) b)
+    inside : part .at ≤ length b → take (end - at) (drop at b) ≡ take (recordSize * part .count) (drop (part .at) b)
     inside h =
         let here : at ≡ part .at = omega arith in
         let size : length (drop (part .at) b) ≡ length b - part .at = length-drop (part .at) b in
-        rw here (take-past (drop (part .at) b) (end - part .at) (12 * part .count) (omega arith))
+        rw here (take-past (drop (part .at) b) (end - part .at) (recordSize * part .count) (omega arith))
 
-    by-test : (t : Bool) → ltb (part .at) (length b) ≡ t → take (end - at) (drop at b) ≡ take (12 * part .count) (drop (part .at) b)
+    by-test : (t : Bool) → ltb (part .at) (length b) ≡ t → take (end - at) (drop at b) ≡ take (recordSize * part .count) (drop (part .at) b)
     by-test true h = inside (omega (arith, ltb-true (part .at) (length b) h))
     by-test false h =
         let behind : length b ≤ part .at = ltb-false (part .at) (length b) h in
         let last : length b ≤ at = omega arith in
-        rw (drop-of-length-le b last, drop-of-length-le b behind) (take-past [] (end - at) (12 * part .count) (omega arith))
+        rw (drop-of-length-le b last, drop-of-length-le b behind) (take-past [] (end - at) (recordSize * part .count) (omega arith))
 
 -- what a place of any bytes gives
 module _ (b : List ℕ) (place : ℕ) (some : place ≡ 0 → ⊥) where
-  pub entry-found : place - 1 < length b / 12 → Found (recordOf (terminalAt b (12 * (place - 1)))) ≡ entryIn b place
+  pub entry-found : place - 1 < length b / recordSize → Found (recordOf (terminalAt b (recordSize * (place - 1)))) ≡ entryIn b place
   unfolding entryIn terminalsIn
   entry-found h =
       sym
       (entry-at _ place some
-      ∙ nth-terminal b 0 (length b / 12) (place - 1) h
-      ∙ ap (λ (i : ℕ). Found (recordOf (terminalAt b i))) (zero-add (12 * (place - 1))))
+      ∙ nth-terminal b 0 (length b / recordSize) (place - 1) h
+      ∙ ap (λ (i : ℕ). Found (recordOf (terminalAt b i))) (zero-add (recordSize * (place - 1))))
 
-  pub entry-nothing : length b / 12 ≤ place - 1 → Nothing ≡ entryIn b place
+  pub entry-nothing : length b / recordSize ≤ place - 1 → Nothing ≡ entryIn b place
   unfolding entryIn terminalsIn
-  entry-nothing h = sym (entry-at _ place some ∙ nth-past (terminalsFrom b 0 (length b / 12)) (place - 1) (rw length-terminals h))
+  entry-nothing h = sym (entry-at _ place some ∙ nth-past (terminalsFrom b 0 (length b / recordSize)) (place - 1) (rw length-terminals h))
 
 -- what is said of a refused sheet
 module _ (b : List ℕ) (why : Refusal) (refuses : checkOf b ≡ Refused why) where
-  refused-read : read b ≡ refused (numberOf why)
-  unfolding read
-  refused-read = ap (readAs (sheetOf b)) refuses
-
   pub refused-section : (side : Side) → [] ≡ sectionOf b side
   unfolding sectionOf
   refused-section side = rw refuses
@@ -159,14 +117,10 @@ module _ (b : List ℕ) (why : Refusal) (refuses : checkOf b ≡ Refused why) wh
 
   pub refused-shape : noShape ≡ shapeOf b
   unfolding shapeOf
-  refused-shape = rw refused-read
+  refused-shape = rw (refused-read b why refuses)
 
 -- and of a sound one, whose trailer is t
 module _ (b : List ℕ) (sounds : checkOf b ≡ Sound) where
-  pub sound-read : read b ≡ sound (sheetOf b)
-  unfolding read
-  sound-read = ap (readAs (sheetOf b)) sounds
-
   pub sound-form : Formed b
   sound-form = whole b sounds .form
 
@@ -177,11 +131,11 @@ module _ (b : List ℕ) (sounds : checkOf b ≡ Sound) where
   -- the layout's shape is that of the sheet
   pub layout-shape : layoutOf b .shape ≡ shapeOf b
   unfolding layoutOf shapeOf sheetOf
-  layout-shape = rw sound-read (simp length-terminals)
+  layout-shape = rw (sound-read b sounds) (simp length-terminals)
 
   -- and its parts are the sections, which lie in the sheet
   module _ (side : Side) (part : Part) (e : part ≡ ofSide (layoutOf b .top) (layoutOf b .bottom) side) where
-    pub sound-room : part .at + 12 * part .count ≤ length b
+    pub sound-room : part .at + recordSize * part .count ≤ length b
     unfolding layoutOf
     sound-room = rw e (sound-form .room side)
 

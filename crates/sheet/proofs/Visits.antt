@@ -8,13 +8,13 @@ use native.Mathlib.Nat.{add-zero, sub-zero}
 use native.Mathlib.Numerals.{add-one}
 use lib.ListN.{length}
 use Rattle.channel.specs.Sheet.{Terminal, Sheet}
+use Rattle.soundness.specs.declared.Side.{Side}
+use Rattle.soundness.specs.declared.Side.the-variants.{Top, Bottom}
+use Rattle.soundness.specs.Read.{Read}
+use Rattle.soundness.specs.Read.Read.{sound, refused}
 use Rattle.sheet.specs.declared.Cursor.{Cursor}
-use Rattle.sheet.specs.declared.Side.{Side}
-use Rattle.sheet.specs.declared.Side.the-variants.{Top, Bottom}
 use Rattle.sheet.specs.declared.Step.the-variants.{Finished}
 use Rattle.sheet.specs.declared.Visit.{Visit}
-use Rattle.sheet.specs.Read.{Read}
-use Rattle.sheet.specs.Read.Read.{sound, refused}
 use Rattle.sheet.specs.Parts.{shapeAs, nth, entryOf, entryAs}
 use Rattle.sheet.specs.Walk.{visits, walk, visitOf, stepIn, stepAs}
 

@@ -7,22 +7,23 @@ use lib.ListN.{length, take, drop}
 use denote.Ref.{RefT, now}
 use Rattle.channel.specs.Sheet.{Terminal, terminals}
 use Rattle.channel.specs.Sheet as channel
-use Rattle.sheet.specs.declared.Checked.{Checked}
-use Rattle.sheet.specs.declared.Checked.the-variants.{Sound, Refused}
+use Rattle.terminal.specs.Terminal.{recordOf}
+use Rattle.soundness.specs.declared.Checked.{Checked}
+use Rattle.soundness.specs.declared.Checked.the-variants.{Sound, Refused}
+use Rattle.soundness.specs.declared.Side.{Side}
+use Rattle.soundness.specs.declared.Side.the-variants.{Top, Bottom}
+use Rattle.soundness.specs.declared.Part.{Part}
+use Rattle.soundness.specs.declared.Trailer.{Trailer}
+use Rattle.soundness.specs.Format.{recordSize, terminalsFrom, trailerOf, partOf}
+use Rattle.soundness.specs.Check.{checkOf}
+use Rattle.soundness.specs.Read.{Read, read}
+use Rattle.soundness.specs.Read.Read.{sound, refused}
 use Rattle.sheet.specs.declared.Entry.{Entry}
 use Rattle.sheet.specs.declared.Entry.the-variants.{Terminal as Found, Nothing}
 use Rattle.sheet.specs.declared.Layout.{Layout}
 use Rattle.sheet.specs.declared.Opened.{Opened}
 use Rattle.sheet.specs.declared.Opened.the-variants.{Sound as Laid, Refused as Unsound}
 use Rattle.sheet.specs.declared.Shape.{Shape}
-use Rattle.sheet.specs.declared.Side.{Side}
-use Rattle.sheet.specs.declared.Side.the-variants.{Top, Bottom}
-use Rattle.sheet.specs.declared.Part.{Part}
-use Rattle.sheet.specs.declared.format.Trailer.{Trailer}
-use Rattle.sheet.specs.Format.{recordSize, recordOf, terminalsFrom, trailerOf, partOf}
-use Rattle.sheet.specs.Check.{checkOf}
-use Rattle.sheet.specs.Read.{Read, read}
-use Rattle.sheet.specs.Read.Read.{sound, refused}
 
 -- "a column buffer of at least p+q bytes, and a work buffer of at least (p+1)(q+1)(L+1)² 16-bit cells"
 abbrev pub cellsOf : ℕ → ℕ → ℕ → ℕ

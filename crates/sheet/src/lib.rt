@@ -1,10 +1,6 @@
-// The sheet layer: what the bytes of a sheet say. No other layer reads a byte of a sheet.
+// The sheet layer: the parts of a sound sheet, and the walk through its terminals.
 
-mod format;
 mod parts;
-mod refusals;
-mod soundness;
-mod terminal;
 mod walk;
 
 pub use parts::count_in;
@@ -14,43 +10,10 @@ pub use parts::record_at;
 pub use parts::record_in;
 pub use parts::section;
 pub use parts::shape_of;
-pub use refusals::number_of;
-pub use soundness::check;
-pub use terminal::allows;
-pub use terminal::in_range;
-pub use terminal::names_above;
-
-// The two sides of the channel.
-pub enum Side {
-    Top,
-    Bottom,
-}
-
-// Why a sheet is refused; `number_of` gives each its number.
-pub enum Refusal {
-    Short,
-    Mark,
-    Length,
-    Count,
-    Layout,
-    Net,
-    Distance,
-    Beyond,
-}
-
-// The answer of the sheet check.
-pub enum Checked {
-    Sound,
-    Refused(Refusal),
-}
-
-// The fields of one terminal's record.
-pub struct Record {
-    pub net: u16,
-    pub least: u8,
-    pub greatest: u8,
-    pub allowed: u64,
-}
+use soundness::Part;
+use soundness::Side;
+use terminal::Record;
+use terminal::Refusal;
 
 // The record at a place, or nothing where there is no such place.
 pub enum Entry {
@@ -66,12 +29,6 @@ pub struct Shape {
     pub bottom: usize,
     pub cells: usize,
     pub pins: usize,
-}
-
-// Where one side's section stands in the sheet: its offset and its number of terminals.
-pub struct Part {
-    pub at: usize,
-    pub count: usize,
 }
 
 // A sound sheet's shape, and where its two sections stand.

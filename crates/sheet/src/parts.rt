@@ -1,20 +1,20 @@
 // The parts of a sound sheet: its shape, one side's section, one terminal's record.
-use crate::Checked;
 use crate::Entry;
 use crate::Layout;
 use crate::Opened;
-use crate::Part;
 use crate::Shape;
-use crate::Side;
-use crate::format::RECORD;
-use crate::format::read_record;
-use crate::format::read_trailer;
-use crate::soundness::check;
+use soundness::Checked;
+use soundness::Part;
+use soundness::RECORD;
+use soundness::Side;
+use soundness::check;
+use soundness::read_record;
+use soundness::read_trailer;
 ghost use mathlib.Core.Path.{_≡_};
 ghost use Prim.Native.Nat.{_+_, _*_, _≤_, min};
 ghost use lib.ListN.{length};
-ghost use Rattle.sheet.specs.Format.{recordSize, ofSide};
-ghost use Rattle.sheet.specs.Check.{checkOf};
+ghost use Rattle.soundness.specs.Format.{recordSize, ofSide};
+ghost use Rattle.soundness.specs.Check.{checkOf};
 ghost use Rattle.sheet.specs.Parts.{cellsOf, layoutOf, openedOf, shapeOf, OwnPart, offsetOf, bytesOf, sectionAt, sectionOf, terminalsIn, entryIn, entryAt};
 
 // Checks the sheet, and gives all that is needed to read a sound one further: nothing of it asks for a second check.

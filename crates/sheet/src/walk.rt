@@ -1,11 +1,11 @@
 // A walk through a sheet's terminals, top then bottom.
 use crate::Cursor;
 use crate::Entry;
-use crate::Side;
 use crate::Step;
 use crate::Visit;
 use crate::parts::record_at;
 use crate::parts::shape_of;
+use soundness::Side;
 ghost use mathlib.Core.Path.{_≡_};
 ghost use Rattle.sheet.specs.Parts.{entryAt};
 ghost use Rattle.sheet.specs.Walk.{start, stepOf, visitOf};

@@ -1,5 +1,5 @@
 // Sheets made at the start of a lent page. What does not fit in the page is left out.
-use sheet::Record;
+use terminal::Record;
 
 // Room for the longest sheet and a few records more.
 pub const PAGE: usize = 1600;

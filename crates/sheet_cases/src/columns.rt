@@ -52,7 +52,7 @@ fn range(before: u8, column: u8, least: u8, greatest: u8) {
     show::field(b" within ", show::wide(least));
     show::field(b" to ", show::wide(greatest));
     show::text(b": ");
-    show::yes_or_no(sheet::in_range(before, column, least, greatest));
+    show::yes_or_no(terminal::in_range(before, column, least, greatest));
 }
 
 fn sets_allow() {
@@ -81,7 +81,7 @@ fn allow(set: u64, column: u8) {
     show::hex(set);
     show::field(b" allows ", show::wide(column));
     show::text(b": ");
-    show::yes_or_no(sheet::allows(set, column));
+    show::yes_or_no(terminal::allows(set, column));
 }
 
 fn sets_name() {
@@ -110,5 +110,5 @@ fn name(set: u64, columns: usize) {
     show::hex(set);
     show::field(b" names one above ", columns as u64);
     show::text(b": ");
-    show::yes_or_no(sheet::names_above(set, columns));
+    show::yes_or_no(terminal::names_above(set, columns));
 }

@@ -4,7 +4,7 @@ use crate::build::Trailer;
 use crate::build::record;
 use crate::show;
 use crate::terminals::changed;
-use sheet::Record;
+use terminal::Record;
 
 pub fn all() {
     short_first();

@@ -2,7 +2,7 @@
 use crate::build;
 use crate::build::record;
 use crate::show;
-use sheet::Side;
+use soundness::Side;
 
 // Sets of which every byte, or both end bits, count.
 const EVERY_BYTE: u64 = 578437695752307201;

@@ -1,13 +1,13 @@
 // What the library answers, in lines of text.
 use libc::STDOUT_FILENO;
-use sheet::Checked;
 use sheet::Cursor;
 use sheet::Entry;
-use sheet::Record;
-use sheet::Refusal;
-use sheet::Side;
 use sheet::Step;
 use sheet::Visit;
+use soundness::Checked;
+use soundness::Side;
+use terminal::Record;
+use terminal::Refusal;
 
 pub fn text(t: &[u8]) {
     io::write_all(STDOUT_FILENO, t);
@@ -43,7 +43,7 @@ pub fn yes_or_no(answer: bool) {
 // The name of a case, and whether its sheet is sound.
 pub fn verdict(name: &[u8], s: &[u8]) {
     text(name);
-    let answer = sheet::check(s);
+    let answer = soundness::check(s);
     match answer {
         Checked::Sound => text(b": sound\n"),
         Checked::Refused(why) => refused(why),

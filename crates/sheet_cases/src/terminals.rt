@@ -2,7 +2,7 @@
 use crate::build;
 use crate::build::record;
 use crate::show;
-use sheet::Record;
+use terminal::Record;
 
 // The sets of one column.
 const COLUMN_63: u64 = 4611686018427387904;

@@ -11,9 +11,9 @@ use Rattle.channel.specs.Word.{word, columnsOf, words}
 use Rattle.channel.specs.Best.{bestOf, best}
 use Rattle.channel.specs.Pairs.{Looser, BothFree}
 use Rattle.channel.proofs.Sets.{allows-below}
-use Rattle.sheet.specs.Format.{little, terminalAt, terminalsFrom, trailerOf, hasMark}
-use Rattle.sheet.specs.Check.{laidOut, trailerCheck, formOf, terminalCheck, checkOf}
-use Rattle.sheet.specs.Read.{sheetOf, read}
+use Rattle.soundness.specs.Format.{little, terminalAt, terminalsFrom, trailerOf, hasMark}
+use Rattle.soundness.specs.Check.{laidOut, trailerCheck, formOf, terminalCheck, checkOf}
+use Rattle.soundness.specs.Read.{sheetOf, read}
 use Rattle.search.specs.Answer.{answerIn, searchedOf, columnsAfter}
 use Rattle.starred.specs.Sheets.{full}
 use Rattle.starred.specs.Table.{Paired}

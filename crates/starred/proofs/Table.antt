@@ -5,9 +5,9 @@ use Rattle.channel.specs.Assignment.{fits, topColumns, bottomColumns, assignmen
 use Rattle.channel.specs.Density.{crosses, netsOf, columnDensity, density}
 use Rattle.channel.specs.Word.{word, columnsOf, words}
 use Rattle.channel.specs.Best.{bestOf, best}
-use Rattle.sheet.specs.Format.{little, terminalAt, terminalsFrom, trailerOf, hasMark}
-use Rattle.sheet.specs.Check.{laidOut, trailerCheck, formOf, terminalCheck, checkOf}
-use Rattle.sheet.specs.Read.{sheetOf, read}
+use Rattle.soundness.specs.Format.{little, terminalAt, terminalsFrom, trailerOf, hasMark}
+use Rattle.soundness.specs.Check.{laidOut, trailerCheck, formOf, terminalCheck, checkOf}
+use Rattle.soundness.specs.Read.{sheetOf, read}
 use Rattle.sheet.specs.Parts.{shapeOf}
 use Rattle.measure.specs.Answer.{allAllowed, distancesKept, listMeasured, sheetMeasured, measuredOf}
 use Rattle.search.specs.Answer.{answerIn, searchedOf, columnsAfter}

@@ -10,8 +10,8 @@ use Rattle.channel.specs.Assignment.{assignment?}
 use Rattle.channel.specs.Density.{density}
 use Rattle.channel.specs.Word.{rank, word}
 use Rattle.channel.specs.Pairs.{Loosened, Lengthened}
-use Rattle.sheet.specs.Read.{sheetOf, read}
-use Rattle.sheet.specs.Read.Read.{sound}
+use Rattle.soundness.specs.Read.{sheetOf, read}
+use Rattle.soundness.specs.Read.Read.{sound}
 use Rattle.sheet.specs.Parts.{shapeOf}
 use Rattle.measure.specs.Answer as measure
 use Rattle.search.specs.Answer as search

@@ -1,7 +1,7 @@
 -- `sheet::Cursor::step` meets its contract: the shape says on which side the next terminal stands, or that there is none.
 -- Assumes nothing.
 use mathlib.Core.Path.{_∙_}
-use Rattle.sheet.specs.Read.{read}
+use Rattle.soundness.specs.Read.{read}
 use Rattle.sheet.specs.Parts.{shapeOf, entryAt}
 use Rattle.sheet.specs.Walk.{stepOf}
 use Rattle.sheet.proofs.Visits.{step-top, step-bottom, step-end}
@@ -9,29 +9,11 @@ use borrow.Author.Needs.{needs}
 use Rattle.sheet.proofs.Cursor.step.Statement.{statement}
 use Rattle.sheet.proofs.Cursor.step.Tie as tie
 
-shape-of-requires : tie.Need-shape-of-requires
-shape-of-requires c κs = search needs
-
 returns : tie.Need-returns
 unfolding shapeOf stepOf
 returns c =
     let start = c .before .before .before .before in
     let a = start .args in step-end (a .self .passed) (read (a .s .now)) (rw (c .before .before .shape-of .ensures) at (c .if1 .taken))
-
-add-t8 : tie.Need-add-t8
-add-t8 c = search needs
-
-add-visit : tie.Need-add-visit
-add-visit c = search needs
-
-visit-requires : tie.Need-visit-requires
-visit-requires c κs = search needs
-
-add-visit-2 : tie.Need-add-visit-2
-add-visit-2 c = search needs
-
-visit-requires-2 : tie.Need-visit-requires-2
-visit-requires-2 c κs = search needs
 
 returns-2 : tie.Need-returns-2
 unfolding shapeOf stepOf entryAt
@@ -53,12 +35,12 @@ pub step-spec : {M : Type 1} → statement M
 step-spec =
     tie.close
     (tie.spec
-    shape-of-requires
+    (λ c κs. search needs)
     returns
-    add-t8
-    add-visit
-    visit-requires
-    add-visit-2
-    visit-requires-2
+    (λ c. search needs)
+    (λ c. search needs)
+    (λ c κs. search needs)
+    (λ c. search needs)
+    (λ c κs. search needs)
     returns-2
     returns-3)

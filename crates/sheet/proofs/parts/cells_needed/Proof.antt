@@ -7,12 +7,6 @@ use borrow.Author.Needs.{needs}
 use Rattle.sheet.proofs.parts.cells_needed.Statement.{statement}
 use Rattle.sheet.proofs.parts.cells_needed.Tie as tie
 
-add-plane : tie.Need-add-plane
-add-plane c = search needs
-
-add-plane-2 : tie.Need-add-plane-2
-add-plane-2 c = search needs
-
 -- two of the factors
 square : (a b : ℕ) → a ≤ 64 → b ≤ 64 → (a + 1) * (b + 1) ≤ 65 * 65
 square a b h g =
@@ -29,30 +23,21 @@ pairs c = square (c .args .p) (c .args .q) (c .pre .1) (c .pre .2)
 mul-plane : tie.Need-mul-plane
 mul-plane c = omega (arith, plane c)
 
-add-result : tie.Need-add-result
-add-result c = search needs
-
-add-result-2 : tie.Need-add-result-2
-add-result-2 c = search needs
-
 mul-result : tie.Need-mul-result
 mul-result c = omega (arith, pairs c)
 
 mul-result-2 : tie.Need-mul-result-2
 mul-result-2 c = omega (arith, mul-le-mul (pairs c) (plane c))
 
-returns : tie.Need-returns
-returns c = search needs
-
 pub cells-needed-spec : {M : Type 1} → statement M
 cells-needed-spec =
     tie.close
     (tie.spec
-    add-plane
-    add-plane-2
+    (λ c. search needs)
+    (λ c. search needs)
     mul-plane
-    add-result
-    add-result-2
+    (λ c. search needs)
+    (λ c. search needs)
     mul-result
     mul-result-2
-    returns)
+    (λ c. search needs))

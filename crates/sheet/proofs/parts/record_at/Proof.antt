@@ -9,12 +9,6 @@ use borrow.Author.Needs.{needs}
 use Rattle.sheet.proofs.parts.record_at.Statement.{statement}
 use Rattle.sheet.proofs.parts.record_at.Tie as tie
 
-section-requires : tie.Need-section-requires
-section-requires c κs = search needs
-
-record-in-requires : tie.Need-record-in-requires
-record-in-requires c κs = search needs
-
 returns : tie.Need-returns
 returns c =
     let a = c .before .before .before .args in
@@ -23,4 +17,4 @@ returns c =
     ∙ entry-section (a .s .now) (a .side) (a .place)
 
 pub record-at-spec : {M : Type 1} → statement M
-record-at-spec = tie.close (tie.spec section-requires record-in-requires returns)
+record-at-spec = tie.close (tie.spec (λ c κs. search needs) (λ c κs. search needs) returns)

@@ -6,15 +6,6 @@ use borrow.Author.Needs.{needs}
 use Rattle.sheet.proofs.walk.visit.Statement.{statement}
 use Rattle.sheet.proofs.walk.visit.Tie as tie
 
-record-at-requires : tie.Need-record-at-requires
-record-at-requires c κs = search needs
-
-enum-known-entry : tie.Need-enum-known-entry
-enum-known-entry c = search needs
-
-enum-told : tie.Need-enum-told
-enum-told c = search needs
-
 returns : tie.Need-returns
 returns c =
     let at-record-at = c .before .before .before in
@@ -27,4 +18,4 @@ returns-2 c =
     let a = start .args in ap (visitOf (a .side) (a .place) (a .next)) (sym (c .enum-told .given .1) ∙ c .before .before .record-at .ensures)
 
 pub visit-spec : {M : Type 1} → statement M
-visit-spec = tie.close (tie.spec record-at-requires enum-known-entry enum-told returns returns-2)
+visit-spec = tie.close (tie.spec (λ c κs. search needs) (λ c. search needs) (λ c. search needs) returns returns-2)

@@ -1,0 +1,5 @@
+mod Fields
+pub mod Records
+pub mod Checks
+mod Sounds
+pub mod Laws

@@ -1,0 +1,65 @@
+-- `soundness::check_trailer` meets its contract: at each return the tests that led there decide `trailerCheck`.
+-- Assumes nothing.
+use mathlib.Core.Path.{_∙_, sym}
+use borrow.Author.Tests.{eq-eqb, ne-eqb, lt-ltb, le-ltb}
+use Rattle.soundness.specs.Check.{trailerCheck}
+use borrow.Author.Needs.{needs}
+use Rattle.soundness.proofs.form.check_trailer.Statement.{statement}
+use Rattle.soundness.proofs.form.check_trailer.Tie as tie
+
+returns : tie.Need-returns
+unfolding trailerCheck
+returns c = simp (eq-eqb _ _ (c .if1 .taken))
+
+returns-2 : tie.Need-returns-2
+unfolding trailerCheck
+returns-2 c = simp (ne-eqb _ _ (c .before .if1 .left), lt-ltb _ _ (c .if2 .taken))
+
+returns-3 : tie.Need-returns-3
+unfolding trailerCheck
+returns-3 c =
+    let at-if2 = c .before .before .before .before in
+    let at-if1 = at-if2 .before in
+    simp (ne-eqb _ _ (at-if1 .if1 .left), le-ltb _ _ (at-if2 .if2 .left), lt-ltb _ _ (c .if3 .taken))
+
+returns-4 : tie.Need-returns-4
+unfolding trailerCheck
+returns-4 c =
+    let at-if2 = c .before .before .before .before .before .before in
+    let at-if1 = at-if2 .before in
+    simp (ne-eqb _ _ (at-if1 .if1 .left), le-ltb _ _ (at-if2 .if2 .left), le-ltb _ _ (c .before .before .if3 .left), lt-ltb _ _ (c .if4 .taken))
+
+returns-5 : tie.Need-returns-5
+unfolding trailerCheck
+returns-5 c =
+    let at-if3 = c .before .before .before .before in
+    let at-if2 = at-if3 .before .before .before .before in
+    let at-if1 = at-if2 .before in
+    simp (
+      ne-eqb _ _ (at-if1 .if1 .left),
+      le-ltb _ _ (at-if2 .if2 .left),
+      le-ltb _ _ (at-if3 .if3 .left),
+      le-ltb _ _
+          (c .before .before .if4 .left),
+      sym (c .before .laid-out .ensures) ∙ c .if5 .taken,
+    )
+
+returns-6 : tie.Need-returns-6
+unfolding trailerCheck
+returns-6 c =
+    let at-if3 = c .before .before .before .before in
+    let at-if2 = at-if3 .before .before .before .before in
+    let at-if1 = at-if2 .before in
+    simp (
+      ne-eqb _ _ (at-if1 .if1 .left),
+      le-ltb _ _ (at-if2 .if2 .left),
+      le-ltb _ _ (at-if3 .if3 .left),
+      le-ltb _ _
+          (c .before .before .if4 .left),
+      sym (c .before .laid-out .ensures) ∙ c .if5 .left,
+    )
+
+pub check-trailer-spec : {M : Type 1} → statement M
+check-trailer-spec =
+    tie.close
+    (tie.spec returns returns-2 returns-3 returns-4 (λ c κs. search needs) returns-5 returns-6)

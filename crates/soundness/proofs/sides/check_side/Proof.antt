@@ -1,0 +1,94 @@
+-- `soundness::check_side` meets its contract. The loop's invariant: what is still to be said of the side is said by the records that are left.
+-- The measure is how many they are.
+-- Assumes nothing.
+use Prim.Native.Nat.{ℕ, _≤_, _+_, _-_, _*_}
+use mathlib.Core.Path.{_≡_, sym, _∙_, ap}
+use mathlib.Core.Bool.{true, false}
+use native.Mathlib.Omega.{arith}
+use native.Mathlib.Nat.{sub-zero}
+use lib.Dec.{eqb}
+use borrow.Author.Tests.{ne-eqb}
+use Rattle.terminal.specs.declared.Record.{Record}
+use Rattle.terminal.specs.Terminal.{terminalOf}
+use Rattle.soundness.specs.declared.Checked.{Checked}
+use Rattle.soundness.specs.Format.{terminalsFrom}
+use Rattle.soundness.specs.Check.{_orElse_, terminalCheck, sideCheck}
+use borrow.Author.Needs.{needs}
+use Rattle.soundness.proofs.Checks.{side-more}
+use Rattle.soundness.proofs.sides.check_side.Statement.{statement}
+use Rattle.soundness.proofs.sides.check_side.Tie as tie
+
+abbrev Inv-loop : tie.InvT-loop
+Inv-loop s columns count at₀ i₀ at i =
+    (i ≤ count)
+    × (at ≡ at₀ + 12 * i)
+    × (sideCheck columns true (terminalsFrom s at₀ count) ≡ sideCheck columns (eqb i 0) (terminalsFrom s at (count - i)))
+
+abbrev μ-loop : tie.MeasureT-loop
+μ-loop s columns count at₀ i₀ at i = count - i
+
+loop-holds : tie.Need-loop-holds Inv-loop μ-loop
+loop-holds c = (omega arith, omega arith, rw sub-zero)
+
+-- what is to be said of the side
+whole : tie.Start Inv-loop μ-loop → Checked
+whole d = let a = d .args in sideCheck (a .columns) true (terminalsFrom (a .s .now) (a .part .at) (a .part .count))
+
+-- the records behind the present one, checked
+rest : tie.After-check-record Inv-loop μ-loop → Checked
+rest d =
+    let a = d .before .before .before .before .before .args in
+    let l = d .before .before .before .loop in
+    sideCheck (a .columns) false (terminalsFrom (a .s .now) (l .at + 12) (a .part .count - (l .i + 1)))
+
+-- what is said of the side: the present record's answer, then the rest
+turn : (d : tie.After-check-record Inv-loop μ-loop)
+    → whole (d .before .before .before .before .before) ≡ (d .check-record .result orElse rest d)
+unfolding whole rest
+turn d =
+    let a = d .before .before .before .before .before .args in
+    let l = d .before .before .before .loop in
+    l .inv .2
+    ∙ side-more (a .columns) (eqb (l .i) 0) (a .s .now) (l .at) (a .part .count) (l .i) (d .before .before .loop-test .taken)
+    ∙ ap (λ (r : Checked). r orElse rest d)
+    (sym (d .check-record .ensures ∙ ap (λ (r : Record). terminalCheck (a .columns) (eqb (l .i) 0) (terminalOf r)) (d .before .read-record .ensures .there (omega arith))))
+
+returns : tie.Need-returns Inv-loop μ-loop
+unfolding whole
+returns c = c .enum-told2 .given .1 ∙ sym (turn (c .before .before) ∙ ap (λ (r : Checked). r orElse rest (c .before .before)) (c .enum-told2 .given .1))
+
+loop-again : tie.Need-loop-again Inv-loop μ-loop
+unfolding whole rest
+loop-again c =
+    let l = c .before .before .before .before .before .loop in (
+      omega arith,
+      omega arith,
+      rw (ne-eqb (l .i + 1) 0 (omega arith))
+          (turn (c .before .before) ∙ ap (λ (r : Checked). r orElse rest (c .before .before)) (c .enum-told .given .1)),
+    )
+
+returns-2 : tie.Need-returns-2 Inv-loop μ-loop
+unfolding terminalsFrom
+returns-2 c =
+    let a = c .before .before .before .args in
+    let l = c .before .loop in
+    let none : a .part .count - l .i ≡ 0 = omega arith in
+    sym (l .inv .2 ∙ ap (λ (n : ℕ). sideCheck (a .columns) (eqb (l .i) 0) (terminalsFrom (a .s .now) (l .at) n)) none)
+
+pub check-side-spec : {M : Type 1} → statement M
+check-side-spec =
+    tie.close
+    (tie.spec
+    Inv-loop
+    μ-loop
+    loop-holds
+    (λ c κs. search needs)
+    (λ c κs. search needs)
+    (λ c. search needs)
+    (λ c. search needs)
+    returns
+    (λ c. omega arith)
+    (λ c. omega arith)
+    (λ c. omega arith)
+    loop-again
+    returns-2)

@@ -1,0 +1,3 @@
+pub mod Format
+pub mod Check
+pub mod Read

@@ -1,0 +1,2 @@
+pub mod Terminal
+pub mod Refusals
