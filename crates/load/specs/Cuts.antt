@@ -1,17 +1,18 @@
 -- The loads of all cuts of two sides, and the table that they stand in.
 -- Assumes nothing.
-use Prim.Native.Nat.{ℕ, _+_, _*_, _≤_, _<_}
+use Prim.Native.Nat.{ℕ, _≤_}
 use mathlib.Core.Path.{_≡_}
 use mathlib.Core.List.{List, _++_}
 use mathlib.Core.Bool.{cond, _||_}
-use mathlib.Core.Logic.{_⊎_}
-use lib.ListN.{length, getD}
+use lib.ListN.{length}
 use lib.Dec.{eqb}
 use Rattle.channel.specs.Density.{weightOf, distinct}
 use Rattle.channel.specs.Word.{Letter, hasTop, hasBottom}
 use Rattle.channel.specs.Word.Letter.{top as T, bottom as B, both as TB}
 use Rattle.channel.specs.Cut.{nets, leftOf, hereOf, rightOf, crossesCut}
 use Rattle.sheet.specs.Parts.{terminalsIn}
+use Rattle.arrays.specs.Rules.{pins}
+use Rattle.arrays.specs.Loads.{loadAt}
 
 -- the load of a column, as channel's `load` has it, from the nets of the two sides alone
 unfoldable pub loadOf : List ℕ → List ℕ → Letter → ℕ → ℕ → ℕ
@@ -24,30 +25,23 @@ loadOf tops bottoms a i j =
 abbrev pub netsIn : List ℕ → List ℕ
 netsIn part = nets (terminalsIn part)
 
--- where the loads of the cut (i, j) stand in the table: a row of 65 cuts for each i, and three bytes for each cut
-abbrev pub cellAt : ℕ → ℕ → ℕ
-cellAt i j = 3 * (65 * i + j)
-
--- the index k is none of that cut's three bytes
-abbrev pub Outside : ℕ → ℕ → ℕ → Type 0
-Outside i j k = (k < cellAt i j) ⊎ (cellAt i j + 3 ≤ k)
-
 -- the loads of the cut (i, j), of a column with a top pin only, a bottom pin only, and both.
 -- A column with a top pin has i ≥ 1, and one with a bottom pin has j ≥ 1: where there is no such column, the byte is 0.
 pub record Cell (tops bottoms loads : List ℕ) (i j : ℕ) : Type 0 where
-  pub top : getD loads (cellAt i j) 0 ≡ cond (eqb i 0) 0 (loadOf tops bottoms T i j)
-  pub bottom : getD loads (cellAt i j + 1) 0 ≡ cond (eqb j 0) 0 (loadOf tops bottoms B i j)
-  pub both : getD loads (cellAt i j + 2) 0 ≡ cond (eqb i 0 || eqb j 0) 0 (loadOf tops bottoms TB i j)
+  pub top : loadAt loads i j 0 ≡ cond (eqb i 0) 0 (loadOf tops bottoms T i j)
+  pub bottom : loadAt loads i j 1 ≡ cond (eqb j 0) 0 (loadOf tops bottoms B i j)
+  pub both : loadAt loads i j 2 ≡ cond (eqb i 0 || eqb j 0) 0 (loadOf tops bottoms TB i j)
 
--- the loads of all cuts put into the table `old`: with p top and q bottom pins, i up to p and j up to q. All other bytes are as they
--- were.
+-- the loads of all cuts put into the table `old`: with p top and q bottom pins, i up to p and j up to q. The loads of all
+-- other cuts are as they were.
 pub record AllLoads (tops bottoms old new : List ℕ) : Type 0 where
   pub size : length new ≡ length old
   pub cell : (i j : ℕ) → i ≤ length tops → j ≤ length bottoms → Cell tops bottoms new i j
-  pub others : (k : ℕ) → ((i j : ℕ) → i ≤ length tops → j ≤ length bottoms → Outside i j k) → getD new k 0 ≡ getD old k 0
+  pub others :
+      (i j letter : ℕ) → j ≤ pins → letter ≤ 2 → (i ≤ length tops → j ≤ length bottoms → ⊥) → loadAt new i j letter ≡ loadAt old i j letter
 
 -- the same of some cuts: those that `cuts` names
 pub record Written (tops bottoms old new : List ℕ) (cuts : ℕ → ℕ → Type 0) : Type 0 where
   pub size : length new ≡ length old
   pub cell : (i j : ℕ) → cuts i j → Cell tops bottoms new i j
-  pub others : (k : ℕ) → ((i j : ℕ) → cuts i j → Outside i j k) → getD new k 0 ≡ getD old k 0
+  pub others : (i j letter : ℕ) → j ≤ pins → letter ≤ 2 → (cuts i j → ⊥) → loadAt new i j letter ≡ loadAt old i j letter

@@ -5,11 +5,13 @@ use crate::counting::loads_at;
 use crate::counting::stand_at;
 use crate::nets::read_nets;
 use crate::spans::list_spans;
+use arrays::put_loads;
 ghost use mathlib.Core.Path.{_≡_};
 ghost use mathlib.Core.Bool.{cond};
 ghost use Prim.Native.Nat.{ℕ, _+_, _≤_, _<_};
-ghost use lib.ListN.{length, take, drop, set};
+ghost use lib.ListN.{length, take, drop};
 ghost use Rattle.sheet.specs.Parts.{terminalsIn};
+ghost use Rattle.arrays.specs.Loads.{loadBytes};
 ghost use Rattle.load.specs.Counts.{possibleLoads};
 ghost use Rattle.load.specs.Cuts.{netsIn, AllLoads, Written};
 ghost use Rattle.load.specs.Ends.{TwoSides, Listed};
@@ -32,30 +34,20 @@ fn possible_loads(l: Loads, i: usize, j: usize) -> Loads
     }
 }
 
-// Puts the loads of one cut into the table.
-fn store(loads: &mut [u8], at: usize, l: Loads)
-    requires { ⌜ at + 3 ≤ length (now loads) ⌝ }
-    ensures { λ r. ⌜ now (loads .exit) ≡ set (set (set (now (loads .entry)) at (l .top)) (at + 1) (l .bottom)) (at + 2) (l .both) ⌝ }
-{
-    loads[at] = l.top;
-    loads[at + 1] = l.bottom;
-    loads[at + 2] = l.both;
-}
-
 // Puts the loads of the cut (i, j) into the table.
 fn write_cell(tops: &[u16], bottoms: &[u16], spans: &[u16], i: usize, j: usize, loads: &mut [u8])
-    requires { ⌜ Listed (now tops) (now bottoms) (now spans) × (i ≤ length (now tops)) × (j ≤ length (now bottoms)) × (length (now loads) ≡ 12675) ⌝ }
+    requires { ⌜ Listed (now tops) (now bottoms) (now spans) × (i ≤ length (now tops)) × (j ≤ length (now bottoms)) × (length (now loads) ≡ loadBytes) ⌝ }
     ensures { λ r. ⌜ Written (now (tops .entry)) (now (bottoms .entry)) (now (loads .entry)) (now (loads .exit)) (λ (x y : ℕ). (x ≡ i) × (y ≡ j)) ⌝ }
 {
     let top = stand_at(tops, i);
     let bottom = stand_at(bottoms, j);
     let l = possible_loads(loads_at(spans, Cut { top, bottom }), i, j);
-    store(loads, 3 * (65 * i + j), l);
+    put_loads(loads, i, j, l.top, l.bottom, l.both);
 }
 
 // Puts the loads of all cuts with i top pins into the table.
 fn write_row(tops: &[u16], bottoms: &[u16], spans: &[u16], i: usize, loads: &mut [u8])
-    requires { ⌜ Listed (now tops) (now bottoms) (now spans) × (i ≤ length (now tops)) × (length (now loads) ≡ 12675) ⌝ }
+    requires { ⌜ Listed (now tops) (now bottoms) (now spans) × (i ≤ length (now tops)) × (length (now loads) ≡ loadBytes) ⌝ }
     ensures { λ r. ⌜ Written (now (tops .entry)) (now (bottoms .entry)) (now (loads .entry)) (now (loads .exit)) (λ (x y : ℕ). (x ≡ i) × (y < length (now (bottoms .entry)) + 1)) ⌝ }
 {
     let mut j = 0;
@@ -67,7 +59,7 @@ fn write_row(tops: &[u16], bottoms: &[u16], spans: &[u16], i: usize, loads: &mut
 
 // Puts the loads of all cuts into the table.
 fn write_table(tops: &[u16], bottoms: &[u16], spans: &[u16], loads: &mut [u8])
-    requires { ⌜ Listed (now tops) (now bottoms) (now spans) × (length (now loads) ≡ 12675) ⌝ }
+    requires { ⌜ Listed (now tops) (now bottoms) (now spans) × (length (now loads) ≡ loadBytes) ⌝ }
     ensures { λ r. ⌜ AllLoads (now (tops .entry)) (now (bottoms .entry)) (now (loads .entry)) (now (loads .exit)) ⌝ }
 {
     let mut i = 0;
@@ -79,7 +71,7 @@ fn write_table(tops: &[u16], bottoms: &[u16], spans: &[u16], loads: &mut [u8])
 
 // The table of the nets of two sides, of which the first p are the top's.
 fn tabulate(nets: &[u16], p: usize, loads: &mut [u8])
-    requires { ⌜ TwoSides (now nets) p × (length (now loads) ≡ 12675) ⌝ }
+    requires { ⌜ TwoSides (now nets) p × (length (now loads) ≡ loadBytes) ⌝ }
     ensures { λ r. ⌜ AllLoads (take p (now (nets .entry))) (drop p (now (nets .entry))) (now (loads .entry)) (now (loads .exit)) ⌝ }
 {
     let mut spans: [u16; 640] = [0; 640];
@@ -90,7 +82,7 @@ fn tabulate(nets: &[u16], p: usize, loads: &mut [u8])
 
 // The loads of all cuts of two sections, as `sheet::part_in` gives them, once per search.
 pub fn read_loads(top: &[u8], bottom: &[u8], loads: &mut [u8])
-    requires { ⌜ (length (terminalsIn (now top)) ≤ 64) × (length (terminalsIn (now bottom)) ≤ 64) × (length (now loads) ≡ 12675) ⌝ }
+    requires { ⌜ (length (terminalsIn (now top)) ≤ 64) × (length (terminalsIn (now bottom)) ≤ 64) × (length (now loads) ≡ loadBytes) ⌝ }
     ensures { λ r. ⌜ AllLoads (netsIn (now (top .entry))) (netsIn (now (bottom .entry))) (now (loads .entry)) (now (loads .exit)) ⌝ }
 {
     let mut nets: [u16; 128] = [0; 128];

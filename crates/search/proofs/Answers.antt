@@ -20,8 +20,8 @@ use Rattle.soundness.proofs.Laws.{read-sound}
 use Rattle.sheet.proofs.Laws.{opened-refused, Opens, opens}
 use Rattle.search.specs.declared.Searched.{Searched}
 use Rattle.search.specs.declared.Searched.the-variants as searched
-use Rattle.search.specs.declared.pass.Outcome.{Outcome}
-use Rattle.search.specs.declared.pass.Outcome.the-variants as outcome
+use Rattle.pass.specs.declared.Outcome.{Outcome}
+use Rattle.pass.specs.declared.Outcome.the-variants as outcome
 use Rattle.search.specs.Answer.{pinsNeeded, cellsNeeded, answerAs, answerIn, answerIf, searchedOf, withColumns, columnsIf, columnsAfter, cleared, workIf, workAfter, Searches}
 use Rattle.search.specs.Solved.{sheetIn, Asked, outcomeOf, Solved}
 

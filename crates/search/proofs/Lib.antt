@@ -1,14 +1,3 @@
-pub mod Below
-pub mod Columns
-pub mod Reached
-pub mod Terminals
-pub mod Reading
-pub mod Choices
-pub mod Passes
-pub mod Cleared
-pub mod Feasible
-pub mod Letters
-pub mod Traced
 pub mod Solving
 pub mod Answers
 pub mod Found

@@ -17,7 +17,7 @@ use Rattle.soundness.proofs.Laws.{read-sound, read-checked, read-refused}
 use Rattle.search.specs.declared.Searched.{Searched}
 use Rattle.search.specs.declared.Searched.the-variants as searched
 use Rattle.search.specs.Answer.{pinsNeeded, cellsNeeded, answerAs, answerIn, searchedOf, columnsIf, columnsAfter, workIf, workAfter, numberOf, densityOf, Searches}
-use Rattle.search.specs.Returned.{Refuses, Gives, LongEnough, Decides, Returned}
+use Rattle.search.specs.Returned.{Refuses, LongEnough, Decides, Returned}
 use Rattle.search.proofs.Found.{answers-best, is-best, gives, columns-behind}
 
 module _ (bytes columns work columns' work' : List ℕ) (r : Searched) (searches : Searches bytes columns work columns' work' r) where

@@ -1,13 +1,13 @@
 -- Why the inner search comes to the best assignment of the two sections' sheet.
 -- Assumes nothing.
-use Prim.Native.Nat.{ℕ, zero, suc, _+_, _-_, _*_, _/_, _≤_, _<_}
+use Prim.Native.Nat.{ℕ, zero, suc, _+_, _-_, _*_, _≤_, _<_}
 use mathlib.Core.Path.{_≡_, refl, sym, _∙_, ap, subst}
 use mathlib.Core.List.{List, _++_}
 use mathlib.Core.Bool.{Bool, true, false, cond}
 use mathlib.Core.Logic.{_⊎_, inl, inr, ⊎-elim}
 use native.Mathlib.Omega.{arith}
-use native.Mathlib.Nat.{add-zero, mul-assoc, mul-le-mul, mul-le-mul-right}
-use lib.ListN.{length, drop, getD, replicate, length-map}
+use native.Mathlib.Nat.{mul-assoc, mul-le-mul, mul-le-mul-right}
+use lib.ListN.{length, drop, replicate, length-append, length-replicate, length-drop, length-map}
 use lib.Dec.{eqb}
 use borrow.Author.Tests.{eqb-false}
 use Rattle.channel.specs.Sheet.{Sheet, Sound}
@@ -17,6 +17,8 @@ use Rattle.channel.specs.Word.{columnsOf}
 use Rattle.channel.specs.Word.Letter.{top, bottom, both}
 use Rattle.sheet.specs.declared.Shape.{Shape}
 use Rattle.sheet.specs.Parts.{terminalsIn}
+use Rattle.arrays.specs.Rules.{ruleWords}
+use Rattle.arrays.specs.Loads.{loadBytes}
 use Rattle.load.specs.Cuts.{Cell, AllLoads, netsIn}
 use Rattle.load.proofs.LoadOf.{load-of, cell-top, cell-bottom, cell-both}
 use Rattle.table.specs.Room.{Measures}
@@ -25,28 +27,24 @@ use Rattle.reach.specs.Greedy.{trace}
 use Rattle.reach.proofs.Bounds.{feasible-some, reach-held}
 use Rattle.reach.proofs.Least.{search-best, search-none}
 use Rattle.reach.proofs.Whole.{trace-pins}
-use Rattle.search.specs.declared.pass.Plan.{Plan}
-use Rattle.search.specs.declared.pass.Outcome.{Outcome}
-use Rattle.search.specs.declared.pass.Outcome.the-variants as outcome
-use Rattle.search.specs.Rules.{SideRules, SheetLoads}
-use Rattle.search.specs.Pass.{Given, placeable, Rising, Least, Placed, tableEnd}
-use Rattle.search.specs.Ready.{Ready}
+use Rattle.pass.specs.declared.Plan.{Plan}
+use Rattle.pass.specs.declared.Outcome.{Outcome}
+use Rattle.pass.specs.declared.Outcome.the-variants as outcome
+use Rattle.rules.specs.Sides.{SideRules}
+use Rattle.pass.specs.Pass.{Given, placeable, Rising, Least, Placed, tableEnd}
+use Rattle.agreement.specs.Ready.{SheetLoads, Ready}
 use Rattle.search.specs.Answer.{withColumns, cleared}
 use Rattle.search.specs.Solved.{sheetIn, planOf, Asked, outcomeOf, Worked, Solved}
-use Rattle.search.specs.Walking.{Lies}
-use Rattle.search.proofs.Feasible.{placeable-feasible, placeable-rising}
-use Rattle.search.proofs.Traced.{walked-trace}
+use Rattle.walk.specs.Walking.{Lies}
+use Rattle.agreement.proofs.Feasible.{placeable-feasible, placeable-rising}
+use Rattle.agreement.proofs.Traced.{walked-trace}
 
 -- the loads of all cuts of two sections are those of their sheet
 pub loads-sheet :
     (l : ℕ) (tops bottoms old new : List ℕ) → AllLoads (netsIn tops) (netsIn bottoms) old new → SheetLoads (sheetIn l tops bottoms) new
 loads-sheet l tops bottoms old new a =
     record {
-      top =
-          λ i j h hi hj.
-          ap (λ (k : ℕ). getD new k 0) (add-zero (3 * (65 * i + j)))
-          ∙ cell-top (cut i j hi hj) h
-          ∙ sym (load-of (sheetIn l tops bottoms) top i j);
+      top = λ i j h hi hj. cell-top (cut i j hi hj) h ∙ sym (load-of (sheetIn l tops bottoms) top i j);
       bottom = λ i j hi h hj. cell-bottom (cut i j hi hj) h ∙ sym (load-of (sheetIn l tops bottoms) bottom i j);
       both = λ i j h hi g hj. cell-both (cut i j hi hj) h g ∙ sym (load-of (sheetIn l tops bottoms) both i j);
     }
@@ -79,16 +77,19 @@ plan-sizes l p q h g hp hq =
     }
 
 pub plan-lies :
-    (work rules : List ℕ) (l p q : ℕ) → 1 ≤ l → l ≤ 64 → p ≤ l → q ≤ l → length rules ≡ 256
+    (work rules : List ℕ) (l p q : ℕ) → 1 ≤ l → l ≤ 64 → p ≤ l → q ≤ l → length rules ≡ ruleWords
     → (p + 1) * (q + 1) * ((l + 1) * (l + 1)) ≤ length work → Lies work rules (planOf l p q .grid) p q
 plan-lies work rules l p q h g hp hq e room =
     record {
       rules = e;
-      sizes = plan-sizes l p q h g hp hq;
+      table =
+          record {
+            sizes = plan-sizes l p q h g hp hq;
+            tops = omega arith;
+            room = rw (← mul-assoc (p + 1) (q + 1) ((l + 1) * (l + 1))) room;
+          };
       rows = row-count l p h g hp .0;
-      tops = omega arith;
       bottoms = refl;
-      room = rw (← mul-assoc (p + 1) (q + 1) ((l + 1) * (l + 1))) room;
     }
 
 -- no assignment where a side has more pins than columns
@@ -179,7 +180,7 @@ module _ (tops bottoms : List ℕ) (n : Shape) (columns work : List ℕ)
 
     -- what the passes ask
     pub place-asked :
-        length rules ≡ 256 → length loads ≡ 12675
+        length rules ≡ ruleWords → length loads ≡ loadBytes
         → Given work rules loads plan × (plan .p + plan .q ≤ length columns) × Rising (placeable rules loads plan)
     place-asked er el = (
       record {
@@ -208,6 +209,10 @@ module _ (tops bottoms : List ℕ) (n : Shape) (columns work : List ℕ)
         (sym (mul-assoc (n .top + 1) (n .bottom + 1) ((n .columns + 1) * (n .columns + 1)))
         ∙ sym (cell-count tops bottoms n (length columns) (length work) asked)) in
         record { outcome = o; written = w; kept = placed .table .kept; behind = subst (λ (k : ℕ). drop k work' ≡ drop k work) end (placed .table .behind) }
+
+-- cleared cells keep their number
+pub cleared-length : (n : ℕ) (old new : List ℕ) → n ≤ length old → new ≡ cleared n old → length new ≡ length old
+cleared-length n old new h e = ap length e ∙ simp (length-append, length-replicate, length-drop) (omega arith)
 
 -- the cells that were worked in, cleared
 pub worked-solved :

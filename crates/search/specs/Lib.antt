@@ -1,9 +1,3 @@
-pub mod Rules
-pub mod Sides
-pub mod Walk
-pub mod Walking
-pub mod Pass
-pub mod Ready
 pub mod Answer
 pub mod Solved
 pub mod Returned

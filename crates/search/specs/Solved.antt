@@ -11,9 +11,9 @@ use Rattle.channel.specs.Best.{Found, best}
 use Rattle.channel.specs.Best.Found.{none, found}
 use Rattle.sheet.specs.declared.Shape.{Shape}
 use Rattle.sheet.specs.Parts.{terminalsIn, shape}
-use Rattle.search.specs.declared.pass.Plan.{Plan}
-use Rattle.search.specs.declared.pass.Outcome.{Outcome}
-use Rattle.search.specs.declared.pass.Outcome.the-variants as outcome
+use Rattle.pass.specs.declared.Plan.{Plan}
+use Rattle.pass.specs.declared.Outcome.{Outcome}
+use Rattle.pass.specs.declared.Outcome.the-variants as outcome
 use Rattle.search.specs.Answer.{withColumns, cleared}
 
 -- the sheet of two sections

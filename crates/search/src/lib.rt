@@ -1,9 +1,6 @@
 // The search for the best assignment of a sheet.
 mod answer;
-mod pass;
-mod rules;
 mod solve;
-mod walk;
 
 pub use answer::density_of;
 pub use answer::number_of;

@@ -1,15 +1,15 @@
 // The search over the two sections of a sound sheet.
-use crate::pass::Outcome;
-use crate::pass::Plan;
-use crate::pass::clear;
-use crate::pass::place;
-use crate::rules::read_rules;
+use pass::Outcome;
+use pass::Plan;
+use pass::place;
+use rules::read_rules;
 use sheet::Shape;
 use table::Grid;
 ghost use Prim.Native.Nat.{_+_, _-_, _≤_};
 ghost use mathlib.Core.Path.{_≡_};
+ghost use mathlib.Core.List.{_++_};
 ghost use mathlib.Core.Bool.{cond};
-ghost use lib.ListN.{length};
+ghost use lib.ListN.{length, drop, replicate};
 ghost use lib.Dec.{eqb};
 ghost use Rattle.search.specs.Solved.{planOf, Asked, Worked, Solved};
 
@@ -54,12 +54,24 @@ fn find(top: &[u8], bottom: &[u8], shape: Shape, columns: &mut [u8], work: &mut 
         return Outcome::Nothing;
     }
     let plan = make_plan(l, p, q);
-    let mut rules = [0u64; 256];
+    let mut rules = [0u64; arrays::RULES];
     read_rules(top, &mut rules, 0);
     read_rules(bottom, &mut rules, 1);
-    let mut loads = [0u8; 12675];
+    let mut loads = [0u8; arrays::LOADS];
     load::read_loads(top, bottom, &mut loads);
     place(work, &rules, &loads, plan, columns)
+}
+
+// Sets the first n cells to 0.
+fn clear(work: &mut [u16], n: usize)
+    requires { ⌜ n ≤ length (now work) ⌝ }
+    ensures { λ _. ⌜ now (work .exit) ≡ replicate n 0 ++ drop n (now (work .entry)) ⌝ }
+{
+    let mut i = 0;
+    while i < n {
+        work[i] = 0;
+        i += 1;
+    }
 }
 
 // Writes the columns of the best assignment, if there is one, and leaves the cells that this takes 0.

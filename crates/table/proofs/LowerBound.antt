@@ -13,7 +13,9 @@ use lib.Dec.{leb, ltb, eqb}
 use borrow.Author.Tests.{ltb-true, ltb-false, lt-leb, le-ltb, eq-eqb, ne-eqb, eqb-true, eqb-false}
 use Rattle.bits.specs.Bits.{bitOf, some}
 use Rattle.bits.proofs.Laws.{some-none}
-use Rattle.table.specs.Entry.{topPart, bottomPart, bothPart, entry, alone, bottomsOnly, withTops, cell, allowedAt, rangeAt, loadAt}
+use Rattle.arrays.specs.Rules.{allowedAt, rangeAt}
+use Rattle.arrays.specs.Loads.{loadAt}
+use Rattle.table.specs.Entry.{topPart, bottomPart, bothPart, entry, alone, bottomsOnly, withTops, cell}
 use Rattle.table.proofs.Parts.{pair-heavy}
 use Rattle.table.specs.LowerBound.{topLast, bottomLast, bothLast, lowest, bottomsLowest, topsLowest, lowerBound}
 

@@ -9,7 +9,9 @@ use lib.Dec.{leb, ltb, eqb}
 use borrow.Author.Tests.{ltb-true, ltb-false, leb-true, leb-false, lt-ltb, le-ltb, eq-eqb, ne-eqb, eqb-true, eqb-false}
 use Rattle.bits.specs.Bits.{bitOf, some, stepped}
 use Rattle.bits.proofs.Laws.{some-cong}
-use Rattle.table.specs.Entry.{loadAt, allowedAt, rangeAt, topPart, bottomPart, bothPart}
+use Rattle.arrays.specs.Rules.{allowedAt, rangeAt}
+use Rattle.arrays.specs.Loads.{loadAt}
+use Rattle.table.specs.Entry.{topPart, bottomPart, bothPart}
 
 pub and-true : (a : Bool) → (a && true) ≡ a
 and-true true = refl

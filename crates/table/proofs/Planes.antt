@@ -16,8 +16,10 @@ use Rattle.bits.specs.Cells.{wordAt, putWord}
 use Rattle.bits.proofs.Laws.{some-cong}
 use Rattle.bits.proofs.Words.{length-put, drop-put, cell-put, word-put-same, word-put-other}
 use Rattle.table.specs.declared.Grid.{Grid}
-use Rattle.table.specs.Entry.{held, startPart, topPart, bottomPart, bothPart, entry, bottomsOnly, withTops, cell, allowedAt, rangeAt, loadAt}
-use Rattle.table.specs.Room.{Measures, Room, Earlier, SameGaps, Filled, baseOf}
+use Rattle.arrays.specs.Rules.{allowedAt, rangeAt}
+use Rattle.arrays.specs.Loads.{loadAt}
+use Rattle.table.specs.Entry.{held, startPart, topPart, bottomPart, bothPart, entry, bottomsOnly, withTops, cell}
+use Rattle.table.specs.Room.{Measures, Room, Earlier, SameGaps, Filled, Fits, baseOf}
 
 -- the products of the places
 next-product : (n m : ℕ) → (n + 1) * m ≡ n * m + m
@@ -296,6 +298,20 @@ module _ (g : Grid) (i : ℕ) where
   row-in-table p h =
       let more : i + 1 ≤ p + 1 = omega arith in
       omega (arith, next-product i (g .stride), mul-le-mul-right (g .stride) more)
+
+  -- a row of a plane that lies in the cells
+  pub row-room : (work : List ℕ) (j x : ℕ) → Fits work g i → j < g .across → x < g .rows → baseOf g i j + 4 * x + 4 ≤ length work
+  row-room work j x fits hj hx =
+      omega (arith, plane-in-row (fits .sizes) j hj, row-next, fits .sizes .rows .0, fits .room)
+
+  -- with the planes of 0 to p lie those of 0 to a smaller number
+  pub fits-less : (work : List ℕ) (p : ℕ) → i ≤ p → Fits work g p → Fits work g i
+  fits-less work p h fits =
+      record { sizes = fits .sizes; tops = omega (arith, fits .tops); room = omega (arith, row-in-table p h, row-next, fits .room) }
+
+-- whether planes lie in the cells goes by the number of cells alone
+pub fits-kept : (old new : List ℕ) (g : Grid) (p : ℕ) → length new ≡ length old → Fits old g p → Fits new g p
+fits-kept old new g p e fits = record { sizes = fits .sizes; tops = fits .tops; room = rw e (fits .room) }
 
 -- nothing is filled yet
 pub filled-none :

@@ -4,22 +4,11 @@
 use Prim.Native.Nat.{ℕ, zero, suc, _+_, _-_, _*_}
 use mathlib.Core.List.{List}
 use mathlib.Core.Bool.{Bool, false, _&&_, _||_}
-use lib.ListN.{getD}
 use lib.Dec.{leb, ltb, eqb}
+use Rattle.arrays.specs.Rules.{rangeAt, allowedAt}
+use Rattle.arrays.specs.Loads.{loadAt}
 use Rattle.bits.specs.Bits.{bitOf, some}
 use Rattle.bits.specs.Cells.{wordAt}
-
--- the rules of the two sides, 0 top and 1 bottom: of the i-th terminal, from 1, the distances in range, less 1, and the allowed
--- columns, less i
-abbrev pub rangeAt : List ℕ → ℕ → ℕ → ℕ
-rangeAt rules side i = getD rules (128 * side + (i - 1)) 0
-
-abbrev pub allowedAt : List ℕ → ℕ → ℕ → ℕ
-allowedAt rules side i = getD rules (128 * side + 64 + (i - 1)) 0
-
--- the load of a column with i top and j bottom pins at or left of it: 0 a top pin in it, 1 a bottom pin, 2 both
-abbrev pub loadAt : List ℕ → ℕ → ℕ → ℕ → ℕ
-loadAt loads i j letter = getD loads (3 * (65 * i + j) + letter) 0
 
 -- bit y of row x of the plane whose cells start at `base`
 abbrev pub held : List ℕ → ℕ → ℕ → ℕ → Bool

@@ -5,7 +5,7 @@ use Prim.Native.Nat.{ℕ, zero, suc, min, max}
 use mathlib.Core.List.{List}
 use mathlib.Core.Bool.{cond}
 use lib.Dec.{eqb}
-use Rattle.table.specs.Entry.{loadAt}
+use Rattle.arrays.specs.Loads.{loadAt}
 
 module _ (loads : List ℕ) (i j : ℕ) where
   -- of i top and j bottom pins, from one top pin less, one bottom pin less, and one of each less: the last column holds a top pin,

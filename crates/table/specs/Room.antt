@@ -7,6 +7,8 @@ use mathlib.Core.Bool.{Bool, _&&_}
 use mathlib.Core.Logic.{_⊎_}
 use lib.ListN.{length, getD, drop}
 use lib.Dec.{leb}
+use Rattle.arrays.specs.Rules.{ruleWords}
+use Rattle.arrays.specs.Loads.{loadBytes}
 use Rattle.bits.specs.Bits.{bitOf, some, inWord}
 use Rattle.table.specs.declared.Grid.{Grid}
 use Rattle.table.specs.declared.Place.{Place}
@@ -14,8 +16,8 @@ use Rattle.table.specs.Entry.{held, cell}
 
 -- the two sides' rules, and the loads of every cut
 pub record Sides (r l : List ℕ) : Type 0 where
-  pub rules : length r ≡ 256
-  pub loads : length l ≡ 12675
+  pub rules : length r ≡ ruleWords
+  pub loads : length l ≡ loadBytes
 
 -- a plane has its rows, at most 64, in its cells
 pub record Measures (g : Grid) : Type 0 where
@@ -33,15 +35,25 @@ pub record Room (work : List ℕ) (g : Grid) (p : Place) : Type 0 where
   pub before : 0 < p .j → g .size ≤ p .at
   pub diagonal : 0 < p .i → 0 < p .j → g .stride + g .size ≤ p .at
 
--- the cells of plane (i, j)
+-- where the cells of plane (i, j) start
 abbrev pub baseOf : Grid → ℕ → ℕ → ℕ
 baseOf g i j = i * g .stride + j * g .size
+
+-- the planes of 0 to p lie in the cells
+pub record Fits (work : List ℕ) (g : Grid) (p : ℕ) : Type 0 where
+  pub sizes : Measures g
+  pub tops : p ≤ 64
+  pub room : (p + 1) * g .stride ≤ length work
+
+-- bit y of row x of plane (i, j)
+abbrev pub heldAt : List ℕ → Grid → ℕ → ℕ → ℕ → ℕ → Bool
+heldAt work g i j x y = held work (baseOf g i j) x y
 
 -- the planes before (i, j) hold the table
 abbrev pub Earlier : List ℕ → List ℕ → ℕ → Grid → ℕ → ℕ → List ℕ → Type 0
 Earlier rules loads bound g i j work =
     (n m x y : ℕ) → (n < i) ⊎ ((n ≡ i) × (m < j)) → m < g .across → x < g .rows → y < 64
-    → held work (baseOf g n m) x y ≡ cell rules loads bound n m x y
+    → heldAt work g n m x y ≡ cell rules loads bound n m x y
 
 -- in each plane the cells behind its rows are as they were: plane follows plane, so that cell k is cell k % size of its plane
 abbrev pub SameGaps : Grid → List ℕ → List ℕ → Type 0
@@ -54,7 +66,7 @@ pub record Filled (rules loads : List ℕ) (bound : ℕ) (g : Grid) (i j end : �
   pub gaps : SameGaps g old new
   pub cells : Earlier rules loads bound g i j new
 
--- some row from low to high, whose step to next is in `by`, holds a number of the mask
-unfoldable pub meeting : List ℕ → ℕ → ℕ → ℕ → ℕ → ℕ → ℕ → Bool
-meeting work base low high next by mask =
-    some (suc high) (λ (x : ℕ). leb low x && (bitOf by (next - x) && inWord (λ (y : ℕ). held work base x y && bitOf mask y)))
+-- some row from low to high of plane (i, j), whose step to next is in `by`, holds a number of the mask
+unfoldable pub meeting : List ℕ → Grid → ℕ → ℕ → ℕ → ℕ → ℕ → ℕ → ℕ → Bool
+meeting work g i j low high next by mask =
+    some (suc high) (λ (x : ℕ). leb low x && (bitOf by (next - x) && inWord (λ (y : ℕ). heldAt work g i j x y && bitOf mask y)))

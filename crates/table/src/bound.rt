@@ -1,8 +1,10 @@
 // A bound that no placing of all pins gets below, from the loads alone.
-use crate::entry::load;
+use arrays::load;
 ghost use Prim.Native.Nat.{ℕ, _+_, _-_, _≤_, _<_, min, max};
 ghost use mathlib.Core.Path.{_≡_};
 ghost use lib.ListN.{length, getD};
+ghost use Rattle.arrays.specs.Rules.{pins};
+ghost use Rattle.arrays.specs.Loads.{loadBytes};
 ghost use Rattle.table.specs.LowerBound.{lowest as lowestOf, lowerBound};
 
 fn smaller(a: u8, b: u8) -> u8
@@ -19,7 +21,7 @@ fn larger(a: u8, b: u8) -> u8
 
 // The lower bound of i top and j bottom pins, from those of one top pin less, one bottom pin less, and one of each less.
 fn lowest(loads: &[u8], i: usize, j: usize, above: u8, before: u8, diagonal: u8) -> u8
-    requires { ⌜ (length (now loads) ≡ 12675) × (i ≤ 64) × (j ≤ 64) ⌝ }
+    requires { ⌜ (length (now loads) ≡ loadBytes) × (i ≤ pins) × (j ≤ pins) ⌝ }
     ensures { λ r. ⌜ r ≡ lowestOf (now (loads .entry)) i j above before diagonal ⌝ }
 {
     let top = larger(above, load(loads, i, j, 0));
@@ -39,7 +41,7 @@ fn lowest(loads: &[u8], i: usize, j: usize, above: u8, before: u8, diagonal: u8)
 
 // Makes the row of one top pin less, of 0 to q bottom pins, the row of i.
 fn next_row(loads: &[u8], i: usize, q: usize, row: &mut [u8])
-    requires { ⌜ (length (now loads) ≡ 12675) × (i ≤ 64) × (q ≤ 64) × (length (now row) ≡ 65) × (0 < i → (j : ℕ) → j ≤ q → getD (now row) j 0 ≡ lowerBound (now loads) (i - 1) j) ⌝ }
+    requires { ⌜ (length (now loads) ≡ loadBytes) × (i ≤ pins) × (q ≤ pins) × (length (now row) ≡ 65) × (0 < i → (j : ℕ) → j ≤ q → getD (now row) j 0 ≡ lowerBound (now loads) (i - 1) j) ⌝ }
     ensures { λ _. ⌜ (length (now (row .exit)) ≡ 65) × ((j : ℕ) → j ≤ q → getD (now (row .exit)) j 0 ≡ lowerBound (now (loads .entry)) i j) ⌝ }
 {
     let mut before: u8 = 0;
@@ -56,7 +58,7 @@ fn next_row(loads: &[u8], i: usize, q: usize, row: &mut [u8])
 
 // The lower bound of p top and q bottom pins.
 pub fn lower_bound(loads: &[u8], p: usize, q: usize) -> u8
-    requires { ⌜ (length (now loads) ≡ 12675) × (p ≤ 64) × (q ≤ 64) ⌝ }
+    requires { ⌜ (length (now loads) ≡ loadBytes) × (p ≤ pins) × (q ≤ pins) ⌝ }
     ensures { λ r. ⌜ r ≡ lowerBound (now (loads .entry)) p q ⌝ }
 {
     let mut row = [0u8; 65];

@@ -1,6 +1,9 @@
 // One word of the table, from the planes before it.
 use crate::Grid;
 use crate::Place;
+use arrays::allowed;
+use arrays::load;
+use arrays::range;
 use bits::below;
 use bits::bit;
 use bits::both;
@@ -14,8 +17,10 @@ ghost use mathlib.Core.Path.{_≡_};
 ghost use mathlib.Core.Bool.{_&&_};
 ghost use lib.ListN.{length};
 ghost use lib.Dec.{leb};
+ghost use Rattle.arrays.specs.Rules.{pins};
+ghost use Rattle.arrays.specs.Loads.{loadBytes, loadAt};
 ghost use Rattle.bits.specs.Bits.{bitOf, some};
-ghost use Rattle.table.specs.Entry.{held, rangeAt, allowedAt, loadAt, startPart, topPart, bottomPart, bothPart, entry};
+ghost use Rattle.table.specs.Entry.{held, startPart, topPart, bottomPart, bothPart, entry};
 ghost use Rattle.table.specs.Room.{Room, Sides};
 
 // The union of the rows up to x of the plane at `base`, each row that is a step of `by` before x.
@@ -34,33 +39,9 @@ pub fn rows(work: &[u16], base: usize, x: usize, by: u64) -> u64
     found
 }
 
-// The distances in range of the i-th terminal of a side, less 1.
-fn range(rules: &[u64], side: usize, i: usize) -> u64
-    requires { ⌜ (length (now rules) ≡ 256) × (side ≤ 1) × (i ≤ 64) × (0 < i) ⌝ }
-    ensures { λ r. ⌜ r ≡ rangeAt (now (rules .entry)) side i ⌝ }
-{
-    rules[128 * side + (i - 1)]
-}
-
-// Its allowed columns, less i.
-fn allowed(rules: &[u64], side: usize, i: usize) -> u64
-    requires { ⌜ (length (now rules) ≡ 256) × (side ≤ 1) × (i ≤ 64) × (0 < i) ⌝ }
-    ensures { λ r. ⌜ r ≡ allowedAt (now (rules .entry)) side i ⌝ }
-{
-    rules[128 * side + 64 + (i - 1)]
-}
-
-// The load of a column.
-pub fn load(loads: &[u8], i: usize, j: usize, letter: usize) -> u8
-    requires { ⌜ (length (now loads) ≡ 12675) × (i ≤ 64) × (j ≤ 64) × (letter ≤ 2) ⌝ }
-    ensures { λ r. ⌜ r ≡ loadAt (now (loads .entry)) i j letter ⌝ }
-{
-    loads[3 * (65 * i + j) + letter]
-}
-
-// Whether it is within the bound.
+// Whether the load of a column is within the bound.
 fn within(loads: &[u8], bound: u8, i: usize, j: usize, letter: usize) -> bool
-    requires { ⌜ (length (now loads) ≡ 12675) × (i ≤ 64) × (j ≤ 64) × (letter ≤ 2) ⌝ }
+    requires { ⌜ (length (now loads) ≡ loadBytes) × (i ≤ pins) × (j ≤ pins) × (letter ≤ 2) ⌝ }
     ensures { λ r. ⌜ r ≡ leb (loadAt (now (loads .entry)) i j letter) bound ⌝ }
 {
     load(loads, i, j, letter) <= bound

@@ -6,7 +6,7 @@ use bits::write_word;
 ghost use Prim.Native.Nat.{_+_, _*_, _≤_, _<_};
 ghost use mathlib.Core.Path.{_≡_};
 ghost use lib.ListN.{length};
-ghost use Rattle.table.specs.Room.{Sides, Measures, Earlier, Filled, baseOf};
+ghost use Rattle.table.specs.Room.{Sides, Measures, Earlier, Filled, Fits, baseOf};
 
 // Fills the plane of (i, j), whose cells start at `at`.
 fn fill_plane(
@@ -57,7 +57,7 @@ fn fill_row(
 
 // Fills the planes of 0 to p. A cell that is in no row of theirs stays as it was.
 pub fn fill(work: &mut [u16], rules: &[u64], loads: &[u8], grid: Grid, bound: u8, p: usize)
-    requires { ⌜ Sides (now rules) (now loads) × Measures grid × (p ≤ 64) × ((p + 1) * grid .stride ≤ length (now work)) ⌝ }
+    requires { ⌜ Sides (now rules) (now loads) × Fits (now work) grid p ⌝ }
     ensures { λ _. ⌜ Filled (now (rules .entry)) (now (loads .entry)) bound grid (p + 1) 0 ((p + 1) * grid .stride) (now (work .entry)) (now (work .exit)) ⌝ }
 {
     let stride = grid.stride;

@@ -1,30 +1,33 @@
 // Questions to a filled table.
+use crate::Grid;
 use bits::bit;
 use bits::both;
 use bits::either;
 use bits::read_word;
 use bits::single;
-ghost use Prim.Native.Nat.{ℕ, _+_, _-_, _*_, _≤_, _<_};
+ghost use Prim.Native.Nat.{ℕ, _-_, _≤_, _<_};
 ghost use mathlib.Core.Path.{_≡_};
 ghost use mathlib.Core.Bool.{_&&_};
 ghost use lib.Dec.{leb};
-ghost use lib.ListN.{length};
 ghost use Rattle.bits.specs.Bits.{bitOf};
-ghost use Rattle.table.specs.Room.{meeting};
+ghost use Rattle.table.specs.Room.{Fits, meeting};
 
-// Whether some row from `low` to `high` of the plane at `base`, whose step to `next` is in `by`, meets the mask.
+// Whether some row from `low` to `high` of plane (i, j), whose step to `next` is in `by`, meets the mask.
 pub fn meets(
     work: &[u16],
-    base: usize,
+    grid: Grid,
+    i: usize,
+    j: usize,
     low: usize,
     high: usize,
     next: usize,
     by: u64,
     mask: u64,
 ) -> bool
-    requires { ⌜ (base + 4 * high + 4 ≤ length (now work)) × (low ≤ high) × (high ≤ next) ⌝ }
-    ensures { λ r. ⌜ r ≡ meeting (now (work .entry)) base low high next by mask ⌝ }
+    requires { ⌜ Fits (now work) grid i × (j < grid .across) × (low ≤ high) × (high < grid .rows) × (high ≤ next) ⌝ }
+    ensures { λ r. ⌜ r ≡ meeting (now (work .entry)) grid i j low high next by mask ⌝ }
 {
+    let base = i * grid.stride + j * grid.size;
     let mut x = low;
     while x <= high {
         if bit(by, next - x) {

@@ -1,7 +1,6 @@
--- `load::write_cell` meets its contract: the loads of the cut that can be, stored in their cell.
+-- `load::write_cell` meets its contract: the loads of the cut that can be, put in.
 -- Assumes nothing.
 use mathlib.Core.Path.{_∙_, ap₂}
-use native.Mathlib.Omega.{arith}
 use Rattle.load.specs.declared.counting.Stand.{Stand}
 use Rattle.load.specs.Counts.{loadsAt}
 use Rattle.load.proofs.Listing.{listed-length}
@@ -24,12 +23,12 @@ returns c =
     write-cell (a .tops .now) (a .bottoms .now) (a .spans .now) (d .pre .0) (a .i) (a .j) (d .pre .1) (d .pre .2) (a .loads .now) _
     (at-loads-at .loads-at .result)
     (at-possible-loads .possible-loads .result)
-    (omega (arith, d .pre .0 .top, d .pre .0 .bottom, d .pre .1, d .pre .2, d .pre .3))
+    (d .pre .3)
     (at-loads-at .loads-at .ensures
     ∙ ap₂ (λ (x y : Stand). loadsAt (a .spans .now) (record { top = x; bottom = y })) (at-stand-at .stand-at .ensures)
     (at-stand-at2 .stand-at2 .ensures))
     (at-possible-loads .possible-loads .ensures)
-    (c .before .before .store .ensures)
+    (c .before .before .put-loads .ensures)
 
 pub write-cell-spec : {M : Type 1} → statement M
 write-cell-spec =
@@ -39,9 +38,6 @@ write-cell-spec =
     (λ c κs. search needs)
     loads-at-requires
     (λ c κs. search needs)
-    (λ c. search needs)
-    (λ c. search needs)
-    (λ c. search needs)
     (λ c κs. search needs)
     (λ c. search needs)
     returns)

@@ -6,7 +6,7 @@ use native.Mathlib.Omega.{arith}
 use lib.ListN.{length}
 use borrow.Author.Needs.{needs}
 use Rattle.sheet.specs.Parts.{terminalsIn}
-use Rattle.search.proofs.Reading.{rules-kept}
+use Rattle.rules.proofs.Reading.{rules-kept}
 use Rattle.search.proofs.Solving.{loads-sheet, crowded-worked, place-asked, placed-worked}
 use Rattle.search.proofs.solve.find.Statement.{statement}
 use Rattle.search.proofs.solve.find.Tie as tie
@@ -23,12 +23,6 @@ returns-2 c =
     let a = start .args in
     crowded-worked (a .top .now) (a .bottom .now) (a .shape) (length (a .columns .now)) (length (a .work .now)) (start .pre) _ _ (inr (c .if2 .taken))
 
-make-plan-requires : tie.Need-make-plan-requires
-make-plan-requires c κs = search needs
-
-slice-aggregate-read-rules : tie.Need-slice-aggregate-read-rules
-slice-aggregate-read-rules c = search needs
-
 read-rules-requires : tie.Need-read-rules-requires
 read-rules-requires c κs =
     let start = c .before .before .before .before .before .before .before .before in
@@ -37,9 +31,6 @@ read-rules-requires c κs =
       omega arith,
       start .pre .sound .counts .0,
     )
-
-slice-aggregate-read-rules-2 : tie.Need-slice-aggregate-read-rules-2
-slice-aggregate-read-rules-2 c = search needs
 
 read-rules-requires-2 : tie.Need-read-rules-requires-2
 read-rules-requires-2 c κs =
@@ -50,9 +41,6 @@ read-rules-requires-2 c κs =
       start .pre .sound .counts .1,
     )
 
-slice-aggregate-read-loads : tie.Need-slice-aggregate-read-loads
-slice-aggregate-read-loads c = search needs
-
 read-loads-requires : tie.Need-read-loads-requires
 read-loads-requires c κs =
     let start = c .before .before .before .before .before .before .before .before .before .before .before .before .before .before in
@@ -61,12 +49,6 @@ read-loads-requires c κs =
       start .pre .sound .counts .1,
       refl,
     )
-
-slice-aggregate-place : tie.Need-slice-aggregate-place
-slice-aggregate-place c = search needs
-
-slice-aggregate-place-2 : tie.Need-slice-aggregate-place-2
-slice-aggregate-place-2 c = search needs
 
 place-requires : tie.Need-place-requires
 place-requires c κs =
@@ -80,17 +62,11 @@ place-requires c κs =
     let a = start .args in
     place-asked (a .top .now) (a .bottom .now) (a .shape) (a .columns .now) (a .work .now) (start .pre) (at-if1 .if1 .left)
     (at-if2 .if2 .left) _ _ (at-make-plan .make-plan .result) (at-make-plan .make-plan .ensures)
-    (rules-kept 0 1 (terminalsIn (a .top .now)) (terminalsIn (a .bottom .now)) _ _ (omega arith) (start .pre .sound .counts .0)
+    (rules-kept 0 1 (terminalsIn (a .top .now)) (terminalsIn (a .bottom .now)) _ _ (λ e. omega arith) (start .pre .sound .counts .0)
     (at-read-rules .read-rules .ensures .rules) (at-read-rules2 .read-rules2 .ensures))
     (at-read-rules2 .read-rules2 .ensures .rules)
     (loads-sheet (a .shape .columns) (a .top .now) (a .bottom .now) _ _ (at-read-loads .read-loads .ensures))
     (at-read-rules2 .read-rules2 .ensures .kept ∙ at-read-rules .read-rules .ensures .kept) (at-read-loads .read-loads .ensures .size)
-
-same-length : tie.Need-same-length
-same-length c = search needs
-
-same-length-2 : tie.Need-same-length-2
-same-length-2 c = search needs
 
 returns-3 : tie.Need-returns-3
 returns-3 c =
@@ -105,7 +81,7 @@ returns-3 c =
     let a = start .args in
     placed-worked (a .top .now) (a .bottom .now) (a .shape) (a .columns .now) (a .work .now) (start .pre) (at-if1 .if1 .left)
     (at-if2 .if2 .left) _ _ (at-make-plan .make-plan .result) (at-make-plan .make-plan .ensures)
-    (rules-kept 0 1 (terminalsIn (a .top .now)) (terminalsIn (a .bottom .now)) _ _ (omega arith) (start .pre .sound .counts .0)
+    (rules-kept 0 1 (terminalsIn (a .top .now)) (terminalsIn (a .bottom .now)) _ _ (λ e. omega arith) (start .pre .sound .counts .0)
     (at-read-rules .read-rules .ensures .rules) (at-read-rules2 .read-rules2 .ensures))
     (at-read-rules2 .read-rules2 .ensures .rules)
     (loads-sheet (a .shape .columns) (a .top .now) (a .bottom .now) _ _ (at-read-loads .read-loads .ensures)) _ _ _ (at-place .place .ensures)
@@ -116,16 +92,16 @@ find-spec =
     (tie.spec
     returns
     returns-2
-    make-plan-requires
-    slice-aggregate-read-rules
+    (λ c κs. search needs)
+    (λ c. search needs)
     read-rules-requires
-    slice-aggregate-read-rules-2
+    (λ c. search needs)
     read-rules-requires-2
-    slice-aggregate-read-loads
+    (λ c. search needs)
     read-loads-requires
-    slice-aggregate-place
-    slice-aggregate-place-2
+    (λ c. search needs)
+    (λ c. search needs)
     place-requires
-    same-length
-    same-length-2
+    (λ c. search needs)
+    (λ c. search needs)
     returns-3)

@@ -6,23 +6,8 @@ use borrow.Author.Needs.{needs}
 use Rattle.search.proofs.solve.make_plan.Statement.{statement}
 use Rattle.search.proofs.solve.make_plan.Tie as tie
 
-add-size : tie.Need-add-size
-add-size c = search needs
-
-add-size-2 : tie.Need-add-size-2
-add-size-2 c = search needs
-
 mul-size : tie.Need-mul-size
 mul-size c = omega (arith, plane-small (c .args .l) (c .pre .0))
-
-rows-of-requires : tie.Need-rows-of-requires
-rows-of-requires c κs = search needs
-
-add-t7 : tie.Need-add-t7
-add-t7 c = search needs
-
-add-t8 : tie.Need-add-t8
-add-t8 c = search needs
 
 mul-t9 : tie.Need-mul-t9
 mul-t9 c = omega (arith, planes-small (c .before .args .l) (c .before .args .q) (c .before .pre .0) (c .before .pre .2))
@@ -32,4 +17,4 @@ returns c = rw (c .rows-of .ensures)
 
 pub make-plan-spec : {M : Type 1} → statement M
 make-plan-spec =
-    tie.close (tie.spec add-size add-size-2 mul-size rows-of-requires add-t7 add-t8 mul-t9 returns)
+    tie.close (tie.spec (λ c. search needs) (λ c. search needs) mul-size (λ c κs. search needs) (λ c. search needs) (λ c. search needs) mul-t9 returns)

@@ -8,14 +8,8 @@ use Rattle.search.proofs.solve.rows_of.Tie as tie
 returns : tie.Need-returns
 returns c = rw (eq-eqb _ _ (c .if1 .taken))
 
-sub-result : tie.Need-sub-result
-sub-result c = search needs
-
-add-result : tie.Need-add-result
-add-result c = search needs
-
 returns-2 : tie.Need-returns-2
 returns-2 c = rw (ne-eqb _ _ (c .if1 .left))
 
 pub rows-of-spec : {M : Type 1} → statement M
-rows-of-spec = tie.close (tie.spec returns sub-result add-result returns-2)
+rows-of-spec = tie.close (tie.spec returns (λ c. search needs) (λ c. search needs) returns-2)

@@ -7,24 +7,6 @@ use Rattle.table.proofs.LowerBound.{lowest-none, lowest-bottoms, lowest
 use Rattle.table.proofs.bound.lowest.Statement.{statement}
 use Rattle.table.proofs.bound.lowest.Tie as tie
 
-load-requires : tie.Need-load-requires
-load-requires c κs = search needs
-
-larger-requires : tie.Need-larger-requires
-larger-requires c κs = search needs
-
-load-requires-2 : tie.Need-load-requires-2
-load-requires-2 c κs = search needs
-
-larger-requires-2 : tie.Need-larger-requires-2
-larger-requires-2 c κs = search needs
-
-load-requires-3 : tie.Need-load-requires-3
-load-requires-3 c κs = search needs
-
-larger-requires-3 : tie.Need-larger-requires-3
-larger-requires-3 c κs = search needs
-
 returns : tie.Need-returns
 returns c =
     let a = c .before .before .before .before .before .before .before .before .before .args in
@@ -46,12 +28,6 @@ returns-3 c =
     ∙ ap (max (a .above)) (at-top .before .load .ensures)
     ∙ lowest-tops (a .loads .now) (a .i) (a .j) (a .above) (a .before) (a .diagonal) (c .before .if1 .left) (c .if3 .taken)
 
-smaller-requires : tie.Need-smaller-requires
-smaller-requires c κs = search needs
-
-smaller-requires-2 : tie.Need-smaller-requires-2
-smaller-requires-2 c κs = search needs
-
 returns-4 : tie.Need-returns-4
 returns-4 c =
     let at-if3 = c .before .before in
@@ -70,15 +46,15 @@ pub lowest-spec : {M : Type 1} → statement M
 lowest-spec =
     tie.close
     (tie.spec
-    load-requires
-    larger-requires
-    load-requires-2
-    larger-requires-2
-    load-requires-3
-    larger-requires-3
+    (λ c κs. search needs)
+    (λ c κs. search needs)
+    (λ c κs. search needs)
+    (λ c κs. search needs)
+    (λ c κs. search needs)
+    (λ c κs. search needs)
     returns
     returns-2
     returns-3
-    smaller-requires
-    smaller-requires-2
+    (λ c κs. search needs)
+    (λ c κs. search needs)
     returns-4)

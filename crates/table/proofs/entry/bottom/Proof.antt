@@ -19,35 +19,8 @@ returns c =
     λ y h. bit-zero y ∙ no-bottom (a .rules .now) (a .loads .now) (a .bound) (a .place .i) (a .place .j) (a .place .x) y
     (held (a .work .now) (a .place .at - a .grid .size)) (c .if1 .taken)
 
-within-requires : tie.Need-within-requires
-within-requires c κs = search needs
-
 sub-read-word : tie.Need-sub-read-word
 sub-read-word c = c .before .before .before .before .before .before .before .before .pre .1 .before (omega (arith, c .before .before .before .before .if1 .left))
-
-mul-read-word : tie.Need-mul-read-word
-mul-read-word c = search needs
-
-add-read-word : tie.Need-add-read-word
-add-read-word c = search needs
-
-read-word-requires : tie.Need-read-word-requires
-read-word-requires c κs = search needs
-
-range-requires : tie.Need-range-requires
-range-requires c κs = search needs
-
-steps-requires : tie.Need-steps-requires
-steps-requires c κs = search needs
-
-allowed-requires : tie.Need-allowed-requires
-allowed-requires c κs = search needs
-
-both-requires : tie.Need-both-requires
-both-requires c κs = search needs
-
-add-if3 : tie.Need-add-if3
-add-if3 c = search needs
 
 returns-2 : tie.Need-returns-2
 unfolding stepped
@@ -69,21 +42,6 @@ returns-2 c =
     (ap (λ (w : ℕ). bitOf w y) (c .before .before .allowed .ensures))
     (all-behind (a .rules .now) (a .loads .now) (a .bound) (a .place .i) (a .place .j) (a .place .x) y
     (held (a .work .now) (a .place .at - a .grid .size)) (c .if3 .taken))
-
-add-from : tie.Need-add-from
-add-from c = search needs
-
-sub-from : tie.Need-sub-from
-sub-from c = search needs
-
-add-from-2 : tie.Need-add-from-2
-add-from-2 c = search needs
-
-from-requires : tie.Need-from-requires
-from-requires c κs = search needs
-
-both-requires-2 : tie.Need-both-requires-2
-both-requires-2 c κs = search needs
 
 returns-3 : tie.Need-returns-3
 unfolding stepped
@@ -120,21 +78,21 @@ bottom-spec =
     tie.close
     (tie.spec
     returns
-    within-requires
+    (λ c κs. search needs)
     sub-read-word
-    mul-read-word
-    add-read-word
-    read-word-requires
-    range-requires
-    steps-requires
-    allowed-requires
-    both-requires
-    add-if3
+    (λ c. search needs)
+    (λ c. search needs)
+    (λ c κs. search needs)
+    (λ c κs. search needs)
+    (λ c κs. search needs)
+    (λ c κs. search needs)
+    (λ c κs. search needs)
+    (λ c. search needs)
     returns-2
-    add-from
-    sub-from
-    add-from-2
-    from-requires
-    both-requires-2
+    (λ c. search needs)
+    (λ c. search needs)
+    (λ c. search needs)
+    (λ c κs. search needs)
+    (λ c κs. search needs)
     returns-3
     returns-4)

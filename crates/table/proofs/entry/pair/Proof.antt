@@ -26,9 +26,6 @@ returns-2 c =
     λ y h. bit-zero y ∙ no-bottom-pair (a .rules .now) (a .loads .now) (a .bound) (a .place .i) (a .place .j) (a .place .x) y
     (held (a .work .now) (a .place .at - (a .grid .stride + a .grid .size))) (c .if2 .taken)
 
-add-if3 : tie.Need-add-if3
-add-if3 c = search needs
-
 returns-3 : tie.Need-returns-3
 returns-3 c =
     let start = c .before .before .before .before .before .before in
@@ -36,27 +33,12 @@ returns-3 c =
     λ y h. bit-zero y ∙ pair-apart (a .rules .now) (a .loads .now) (a .bound) (a .place .i) (a .place .j) (a .place .x) y
     (held (a .work .now) (a .place .at - (a .grid .stride + a .grid .size))) (λ e. omega (arith, c .if3 .taken))
 
-add-y : tie.Need-add-y
-add-y c = search needs
-
-sub-y : tie.Need-sub-y
-sub-y c = search needs
-
 returns-4 : tie.Need-returns-4
 returns-4 c =
     let start = c .before .before .before .before .before .before .before in
     let a = start .args in
     λ y h. bit-zero y ∙ pair-apart (a .rules .now) (a .loads .now) (a .bound) (a .place .i) (a .place .j) (a .place .x) y
     (held (a .work .now) (a .place .at - (a .grid .stride + a .grid .size))) (λ e. omega (arith, c .if4 .taken))
-
-within-requires : tie.Need-within-requires
-within-requires c κs = search needs
-
-allowed-requires : tie.Need-allowed-requires
-allowed-requires c κs = search needs
-
-bit-requires : tie.Need-bit-requires
-bit-requires c κs = search needs
 
 add-rows : tie.Need-add-rows
 add-rows c =
@@ -72,33 +54,12 @@ sub-rows c =
     let start = at-if1 .before .before .before .before in
     start .pre .1 .diagonal (omega (arith, at-if1 .if1 .left)) (omega (arith, at-if2 .if2 .left))
 
-range-requires : tie.Need-range-requires
-range-requires c κs = search needs
-
 rows-requires : tie.Need-rows-requires
 rows-requires c κs =
     let at-if2 = c .before .before .before .before .before .before .before .before .before .before in
     let at-if1 = at-if2 .before in
     let start = at-if1 .before .before .before .before in
     omega (arith, start .pre .1, start .pre .1 .diagonal (omega (arith, at-if1 .if1 .left)) (omega (arith, at-if2 .if2 .left)))
-
-single-requires : tie.Need-single-requires
-single-requires c κs = search needs
-
-range-requires-2 : tie.Need-range-requires-2
-range-requires-2 c κs = search needs
-
-steps-requires : tie.Need-steps-requires
-steps-requires c κs = search needs
-
-allowed-requires-2 : tie.Need-allowed-requires-2
-allowed-requires-2 c κs = search needs
-
-both-requires : tie.Need-both-requires
-both-requires c κs = search needs
-
-both-requires-2 : tie.Need-both-requires-2
-both-requires-2 c κs = search needs
 
 returns-5 : tie.Need-returns-5
 returns-5 c =
@@ -153,24 +114,24 @@ pair-spec =
     (tie.spec
     returns
     returns-2
-    add-if3
+    (λ c. search needs)
     returns-3
-    add-y
-    sub-y
+    (λ c. search needs)
+    (λ c. search needs)
     returns-4
-    within-requires
-    allowed-requires
-    bit-requires
+    (λ c κs. search needs)
+    (λ c κs. search needs)
+    (λ c κs. search needs)
     add-rows
     sub-rows
-    range-requires
+    (λ c κs. search needs)
     rows-requires
-    single-requires
-    range-requires-2
-    steps-requires
-    allowed-requires-2
-    both-requires
-    both-requires-2
+    (λ c κs. search needs)
+    (λ c κs. search needs)
+    (λ c κs. search needs)
+    (λ c κs. search needs)
+    (λ c κs. search needs)
+    (λ c κs. search needs)
     returns-5
     returns-6
     returns-7)

@@ -19,9 +19,6 @@ returns c =
     λ y h. bit-zero y ∙ no-top (a .rules .now) (a .loads .now) (a .bound) (a .place .i) (a .place .j) (a .place .x) y
     (held (a .work .now) (a .place .at - a .grid .stride)) (c .if1 .taken)
 
-add-if2 : tie.Need-add-if2
-add-if2 c = search needs
-
 returns-2 : tie.Need-returns-2
 returns-2 c =
     let start = c .before .before .before .before .before in
@@ -29,41 +26,17 @@ returns-2 c =
     λ y h. bit-zero y ∙ top-left (a .rules .now) (a .loads .now) (a .bound) (a .place .i) (a .place .j) (a .place .x) y
     (held (a .work .now) (a .place .at - a .grid .stride)) (c .if2 .taken)
 
-within-requires : tie.Need-within-requires
-within-requires c κs = search needs
-
-allowed-requires : tie.Need-allowed-requires
-allowed-requires c κs = search needs
-
-bit-requires : tie.Need-bit-requires
-bit-requires c κs = search needs
-
 sub-rows : tie.Need-sub-rows
 sub-rows c =
     let at-if1 = c .before .before .before .before .before .before .before .before in
     let start = at-if1 .before .before .before .before in
     start .pre .1 .above (omega (arith, at-if1 .if1 .left))
 
-range-requires : tie.Need-range-requires
-range-requires c κs = search needs
-
 rows-requires : tie.Need-rows-requires
 rows-requires c κs =
     let at-if1 = c .before .before .before .before .before .before .before .before .before in
     let start = at-if1 .before .before .before .before in
     omega (arith, start .pre .1, start .pre .1 .above (omega (arith, at-if1 .if1 .left)))
-
-add-below : tie.Need-add-below
-add-below c = search needs
-
-sub-below : tie.Need-sub-below
-sub-below c = search needs
-
-below-requires : tie.Need-below-requires
-below-requires c κs = search needs
-
-both-requires : tie.Need-both-requires
-both-requires c κs = search needs
 
 returns-3 : tie.Need-returns-3
 returns-3 c =
@@ -109,18 +82,18 @@ top-spec =
     tie.close
     (tie.spec
     returns
-    add-if2
+    (λ c. search needs)
     returns-2
-    within-requires
-    allowed-requires
-    bit-requires
+    (λ c κs. search needs)
+    (λ c κs. search needs)
+    (λ c κs. search needs)
     sub-rows
-    range-requires
+    (λ c κs. search needs)
     rows-requires
-    add-below
-    sub-below
-    below-requires
-    both-requires
+    (λ c. search needs)
+    (λ c. search needs)
+    (λ c κs. search needs)
+    (λ c κs. search needs)
     returns-3
     returns-4
     returns-5)

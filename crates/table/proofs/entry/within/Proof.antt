@@ -7,11 +7,8 @@ use borrow.Author.Needs.{needs}
 use Rattle.table.proofs.entry.within.Statement.{statement}
 use Rattle.table.proofs.entry.within.Tie as tie
 
-load-requires : tie.Need-load-requires
-load-requires c κs = search needs
-
 returns : tie.Need-returns
 returns c = ap (λ (n : ℕ). leb n (c .before .before .args .bound)) (c .load .ensures)
 
 pub within-spec : {M : Type 1} → statement M
-within-spec = tie.close (tie.spec load-requires returns)
+within-spec = tie.close (tie.spec (λ c κs. search needs) returns)

@@ -7,27 +7,6 @@ use borrow.Author.Needs.{needs}
 use Rattle.table.proofs.entry.word.Statement.{statement}
 use Rattle.table.proofs.entry.word.Tie as tie
 
-start-requires : tie.Need-start-requires
-start-requires c κs = search needs
-
-top-requires : tie.Need-top-requires
-top-requires c κs = search needs
-
-bottom-requires : tie.Need-bottom-requires
-bottom-requires c κs = search needs
-
-pair-requires : tie.Need-pair-requires
-pair-requires c κs = search needs
-
-either-requires : tie.Need-either-requires
-either-requires c κs = search needs
-
-either-requires-2 : tie.Need-either-requires-2
-either-requires-2 c κs = search needs
-
-either-requires-3 : tie.Need-either-requires-3
-either-requires-3 c κs = search needs
-
 returns : tie.Need-returns
 unfolding entry
 returns c =
@@ -46,11 +25,11 @@ pub word-spec : {M : Type 1} → statement M
 word-spec =
     tie.close
     (tie.spec
-    start-requires
-    top-requires
-    bottom-requires
-    pair-requires
-    either-requires
-    either-requires-2
-    either-requires-3
+    (λ c κs. search needs)
+    (λ c κs. search needs)
+    (λ c κs. search needs)
+    (λ c κs. search needs)
+    (λ c κs. search needs)
+    (λ c κs. search needs)
+    (λ c κs. search needs)
     returns)

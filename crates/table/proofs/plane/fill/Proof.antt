@@ -32,10 +32,10 @@ fill-row-requires c κs =
     let a = start .args in
     let l = c .before .before .loop in (
       start .pre .0,
-      start .pre .1,
-      omega (arith, start .pre .2, c .before .loop-test .taken),
+      start .pre .1 .sizes,
+      omega (arith, start .pre .1 .tops, c .before .loop-test .taken),
       l .inv .1,
-      omega (arith, row-in-table (a .grid) (l .i) (a .p) (c .before .loop-test .taken), l .inv .1, start .pre .3, l .inv .2 .kept),
+      omega (arith, row-in-table (a .grid) (l .i) (a .p) (c .before .loop-test .taken), l .inv .1, start .pre .1 .room, l .inv .2 .kept),
       l .inv .2 .cells,
     )
 
@@ -45,10 +45,10 @@ add-at c =
     let at-loop = at-loop-test .before in
     let start = at-loop .before .before .before .before in
     let a = start .args in
-    let l = at-loop .loop in omega (arith, row-in-table (a .grid) (l .i) (a .p) (at-loop-test .loop-test .taken), l .inv .1, start .pre .3)
+    let l = at-loop .loop in omega (arith, row-in-table (a .grid) (l .i) (a .p) (at-loop-test .loop-test .taken), l .inv .1, start .pre .1 .room)
 
 add-i : tie.Need-add-i Inv-loop μ-loop
-add-i c = omega (arith, c .before .before .before .before .loop-test .taken, c .before .before .before .before .before .before .before .before .before .pre .2)
+add-i c = omega (arith, c .before .before .before .before .loop-test .taken, c .before .before .before .before .before .before .before .before .before .pre .1 .tops)
 
 loop-less : tie.Need-loop-less Inv-loop μ-loop
 loop-less c = omega (arith, c .before .before .before .before .loop-test .taken)

@@ -9,39 +9,60 @@ use borrow.Author.Needs.{needs}
 use lib.Dec.{leb}
 use Rattle.bits.specs.Bits.{bitOf, some, inWord}
 use Rattle.table.specs.Entry.{held}
-use Rattle.table.specs.Room.{meeting}
+use Rattle.table.specs.Room.{heldAt, meeting}
+use Rattle.table.proofs.Planes.{row-room}
 use Rattle.table.proofs.Unions.{none-before, row-misses, row-skipped, row-meets, none-meets}
 use Rattle.table.proofs.query.meets.Statement.{statement}
 use Rattle.table.proofs.query.meets.Tie as tie
 
 abbrev Inv-loop : tie.InvT-loop
-Inv-loop work base low high next by mask x₀ x =
+Inv-loop work i j low high next by mask base x₀ x =
     (low ≤ x) × (x ≤ high + 1) × (some x
     (λ (m : ℕ). leb low m && (bitOf by (next - m) && inWord (λ (y : ℕ). held work base m y && bitOf mask y))) ≡ false)
 
 abbrev μ-loop : tie.MeasureT-loop
-μ-loop work base low high next by mask x₀ x = high + 1 - x
+μ-loop work i j low high next by mask base x₀ x = high + 1 - x
+
+mul-base : tie.Need-mul-base Inv-loop μ-loop
+mul-base c =
+    let start = c .before .before in
+    let a = start .args in
+    omega (arith, row-room (a .grid) (a .i) (a .work .now) (a .j) (a .high) (start .pre .0) (start .pre .1) (start .pre .3))
+
+mul-base-2 : tie.Need-mul-base-2 Inv-loop μ-loop
+mul-base-2 c =
+    let start = c .before .before .before in
+    let a = start .args in
+    omega (arith, row-room (a .grid) (a .i) (a .work .now) (a .j) (a .high) (start .pre .0) (start .pre .1) (start .pre .3))
+
+add-base : tie.Need-add-base Inv-loop μ-loop
+add-base c =
+    let start = c .before .before .before in
+    let a = start .args in
+    omega (arith, row-room (a .grid) (a .i) (a .work .now) (a .j) (a .high) (start .pre .0) (start .pre .1) (start .pre .3))
 
 loop-holds : tie.Need-loop-holds Inv-loop μ-loop
-loop-holds c = (omega arith, omega arith, none-before (c .before .args .low) (λ (m : ℕ). bitOf (c .before .args .by) (c .before .args .next - m)) (λ (m y : ℕ). held (c .before .args .work .now) (c .before .args .base) m y && bitOf (c .before .args .mask) y))
-
-sub-bit : tie.Need-sub-bit Inv-loop μ-loop
-sub-bit c = omega arith
-
-bit-requires : tie.Need-bit-requires Inv-loop μ-loop
-bit-requires c κs = search needs
-
-mul-read-word : tie.Need-mul-read-word Inv-loop μ-loop
-mul-read-word c = omega arith
+loop-holds c =
+    let a = c .before .before .before .args in (
+      omega arith,
+      omega arith,
+      none-before (a .low) (λ (m : ℕ). bitOf (a .by) (a .next - m))
+          (λ (m y : ℕ). heldAt (a .work .now) (a .grid) (a .i) (a .j) m y && bitOf (a .mask) y),
+    )
 
 add-read-word : tie.Need-add-read-word Inv-loop μ-loop
-add-read-word c = omega arith
+add-read-word c =
+    let at-loop = c .before .before .before in
+    let start = at-loop .before .before .before .before in
+    let a = start .args in
+    omega (arith, row-room (a .grid) (a .i) (a .work .now) (a .j) (a .high) (start .pre .0) (start .pre .1) (start .pre .3))
 
 read-word-requires : tie.Need-read-word-requires Inv-loop μ-loop
-read-word-requires c κs = omega arith
-
-both-requires : tie.Need-both-requires Inv-loop μ-loop
-both-requires c κs = search needs
+read-word-requires c κs =
+    let at-loop = c .before .before .before in
+    let start = at-loop .before .before .before .before in
+    let a = start .args in
+    omega (arith, row-room (a .grid) (a .i) (a .work .now) (a .j) (a .high) (start .pre .0) (start .pre .1) (start .pre .3))
 
 returns : tie.Need-returns Inv-loop μ-loop
 unfolding meeting
@@ -50,47 +71,41 @@ returns c =
     let at-bit = at-if1 .before in
     let at-loop-test = at-bit .before in
     let at-loop = at-loop-test .before in
-    let start = at-loop .before .before in
+    let start = at-loop .before .before .before .before in
     let a = start .args in
     let l = at-loop .loop in
     row-meets (a .low) (a .high) (l .x) (λ (m : ℕ). bitOf (a .by) (a .next - m))
-    (λ (m y : ℕ). held (a .work .now) (a .base) m y && bitOf (a .mask) y) (l .inv .0) (at-loop-test .loop-test .taken)
+    (λ (m y : ℕ). heldAt (a .work .now) (a .grid) (a .i) (a .j) m y && bitOf (a .mask) y) (l .inv .0) (at-loop-test .loop-test .taken)
     (sym (at-bit .bit .ensures) ∙ at-if1 .if1 .taken)
     (c .before .both .result) (omega (arith, c .before .both .ok)) (c .if2 .taken)
     (λ y. c .before .both .ensures y ∙ ap (λ (w : ℕ). bitOf w y && bitOf (a .mask) y) (c .before .before .read-word .ensures))
 
-add-x : tie.Need-add-x Inv-loop μ-loop
-add-x c = omega arith
-
-loop-less : tie.Need-loop-less Inv-loop μ-loop
-loop-less c = omega arith
-
 loop-again : tie.Need-loop-again Inv-loop μ-loop
 loop-again c =
     let at-loop = c .before .before .before in
-    let start = at-loop .before .before in
+    let start = at-loop .before .before .before .before in
     let a = start .args in
     let l = at-loop .loop in (
       omega arith,
       omega arith,
       ⊎-elim
           (λ w. row-misses (a .low) (l .x) (λ (m : ℕ). bitOf (a .by) (a .next - m))
-          (λ (m y : ℕ). held (a .work .now) (a .base) m y && bitOf (a .mask) y) (w .2 .result) (w .3 .left)
+          (λ (m y : ℕ). heldAt (a .work .now) (a .grid) (a .i) (a .j) m y && bitOf (a .mask) y) (w .2 .result) (w .3 .left)
           (λ y. w .2 .ensures y ∙ ap (λ (v : ℕ). bitOf v y && bitOf (a .mask) y) (w .1 .ensures)) (l .inv .2))
           (λ w. row-skipped (a .low) (l .x) (λ (m : ℕ). bitOf (a .by) (a .next - m))
-          (λ (m y : ℕ). held (a .work .now) (a .base) m y && bitOf (a .mask) y) (sym (c .before .bit .ensures) ∙ w .left) (l .inv .2))
+          (λ (m y : ℕ). heldAt (a .work .now) (a .grid) (a .i) (a .j) m y && bitOf (a .mask) y) (sym (c .before .bit .ensures) ∙ w .left) (l .inv .2))
           (c .if1 .came),
     )
 
 returns-2 : tie.Need-returns-2 Inv-loop μ-loop
 unfolding meeting
 returns-2 c =
-    let start = c .before .before .before in
+    let start = c .before .before .before .before .before in
     let a = start .args in
     let l = c .before .loop in
     let end : l .x ≡ suc (a .high) = omega arith in
     none-meets (λ (m : ℕ). leb (a .low) m &&
-    (bitOf (a .by) (a .next - m) && inWord (λ (y : ℕ). held (a .work .now) (a .base) m y && bitOf (a .mask) y))) (l .x) (suc (a .high)) end
+    (bitOf (a .by) (a .next - m) && inWord (λ (y : ℕ). heldAt (a .work .now) (a .grid) (a .i) (a .j) m y && bitOf (a .mask) y))) (l .x) (suc (a .high)) end
     (l .inv .2)
 
 pub meets-spec : {M : Type 1} → statement M
@@ -99,15 +114,18 @@ meets-spec =
     (tie.spec
     Inv-loop
     μ-loop
+    mul-base
+    mul-base-2
+    add-base
     loop-holds
-    sub-bit
-    bit-requires
-    mul-read-word
+    (λ c. omega arith)
+    (λ c κs. search needs)
+    (λ c. omega arith)
     add-read-word
     read-word-requires
-    both-requires
+    (λ c κs. search needs)
     returns
-    add-x
-    loop-less
+    (λ c. omega arith)
+    (λ c. omega arith)
     loop-again
     returns-2)

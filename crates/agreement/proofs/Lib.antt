@@ -1,0 +1,6 @@
+pub mod Below
+pub mod Columns
+pub mod Reached
+pub mod Feasible
+pub mod Letters
+pub mod Traced

@@ -1,0 +1,2 @@
+pub mod Terminals
+pub mod Reading

@@ -1,0 +1,262 @@
+// The walk from column L down that takes the smallest letter after which the rest can still be placed.
+use arrays::range;
+use bits::bit;
+use bits::single;
+use table::Grid;
+use table::back;
+use table::meets;
+ghost use Prim.Native.Nat.{ℕ, _+_, _-_, _≤_, _<_, min};
+ghost use mathlib.Core.Path.{_≡_};
+ghost use mathlib.Core.Bool.{true, cond};
+ghost use lib.ListN.{length, set};
+ghost use Rattle.arrays.specs.Rules.{pins, ruleWords};
+ghost use Rattle.bits.specs.Bits.{bitOf};
+ghost use Rattle.walk.specs.Walk.{stepsTo, standsAt, lefts, emptyMeets, topMeets, bottomFits, chosen, hasTopPin, hasBottomPin, behind, written, walked};
+ghost use Rattle.walk.specs.Walking.{Lies, Walks};
+
+// How far the walk has come: c columns are still to be lettered, i top and j bottom pins to be placed, and the pins
+// placed last stand in the columns top and bottom.
+pub struct Mark {
+    pub c: usize,
+    pub i: usize,
+    pub j: usize,
+    pub top: usize,
+    pub bottom: usize,
+}
+
+// The steps from the last pin to be placed to the one behind it.
+fn steps_to(rules: &[u64], side: usize, i: usize, n: usize) -> u64
+    requires { ⌜ (length (now rules) ≡ ruleWords) × (side ≤ 1) × (i ≤ n) × (n ≤ pins) ⌝ }
+    ensures { λ r. ⌜ r ≡ stepsTo (now (rules .entry)) side i n ⌝ }
+{
+    if i == n {
+        return 18446744073709551615;
+    }
+    range(rules, side, i + 1)
+}
+
+// Where that one stands, less i + 1.
+fn stands_at(i: usize, n: usize, at: usize) -> usize
+    requires { ⌜ (i ≤ n) × (i < n → i + 1 ≤ at) ⌝ }
+    ensures { λ r. ⌜ r ≡ standsAt i n at ⌝ }
+{
+    if i == n {
+        return 63;
+    }
+    at - (i + 1)
+}
+
+// The numbers left of the column.
+fn left_numbers(rules: &[u64], q: usize, m: Mark) -> u64
+    requires { ⌜ (length (now rules) ≡ ruleWords) × (q ≤ pins) × (0 < m .c) × (m .c ≤ 64) × (m .j ≤ q) × (m .j < q → m .c < m .bottom) ⌝ }
+    ensures { λ r. ⌜ ((y : ℕ) → y < 64 → bitOf r y ≡ lefts (now (rules .entry)) q m y) ⌝ }
+{
+    let j = m.j;
+    let left = m.c - 1;
+    if left < j {
+        return 0;
+    }
+    let next = stands_at(j, q, m.bottom);
+    let by = steps_to(rules, 1, j, q);
+    back(left - j, next, by)
+}
+
+// The last row left of the column.
+fn last_row(rows: usize, left: usize, i: usize) -> usize
+    requires { ⌜ (0 < rows) × (i ≤ left) ⌝ }
+    ensures { λ r. ⌜ r ≡ min (left - i) (rows - 1) ⌝ }
+{
+    let row = left - i;
+    if row < rows - 1 { row } else { rows - 1 }
+}
+
+// Whether the column can be empty.
+fn empty_fits(
+    work: &[u16],
+    rules: &[u64],
+    grid: Grid,
+    p: usize,
+    q: usize,
+    m: Mark,
+    lefts: u64,
+) -> bool
+    requires { ⌜ Lies (now work) (now rules) grid p q × Walks p q m × (0 < m .c) ⌝ }
+    ensures { λ r. ⌜ r ≡ emptyMeets (now (work .entry)) (now (rules .entry)) grid p m lefts ⌝ }
+{
+    let i = m.i;
+    let left = m.c - 1;
+    if left < i {
+        return false;
+    }
+    let high = last_row(grid.rows, left, i);
+    let next = stands_at(i, p, m.top);
+    let by = steps_to(rules, 0, i, p);
+    meets(work, grid, i, m.j, 0, high, next, by, lefts)
+}
+
+// Whether it can hold a top pin alone.
+fn top_fits(
+    work: &[u16],
+    rules: &[u64],
+    grid: Grid,
+    p: usize,
+    q: usize,
+    m: Mark,
+    lefts: u64,
+) -> bool
+    requires { ⌜ Lies (now work) (now rules) grid p q × Walks p q m × (0 < m .c) ⌝ }
+    ensures { λ r. ⌜ r ≡ topMeets (now (work .entry)) (now (rules .entry)) grid p m lefts ⌝ }
+{
+    let i = m.i;
+    let c = m.c;
+    if i == 0 {
+        return false;
+    }
+    if c < i {
+        return false;
+    }
+    let row = c - i;
+    if row < grid.rows {
+        let next = stands_at(i, p, m.top);
+        let by = steps_to(rules, 0, i, p);
+        return meets(work, grid, i, m.j, row, row, next, by, lefts);
+    }
+    false
+}
+
+// Whether it can hold a bottom pin alone.
+fn bottom_fits(work: &[u16], rules: &[u64], grid: Grid, p: usize, q: usize, m: Mark) -> bool
+    requires { ⌜ Lies (now work) (now rules) grid p q × Walks p q m × (0 < m .c) ⌝ }
+    ensures { λ r. ⌜ r ≡ bottomFits (now (work .entry)) (now (rules .entry)) grid p q m ⌝ }
+{
+    let j = m.j;
+    let c = m.c;
+    if j == 0 {
+        return false;
+    }
+    if c < j {
+        return false;
+    }
+    if bit(
+        steps_to(rules, 1, j, q),
+        stands_at(j, q, m.bottom) - (c - j),
+    ) {
+        return empty_fits(work, rules, grid, p, q, m, single(c - j));
+    }
+    false
+}
+
+// The smallest letter after which the rest can still be placed.
+fn choose(work: &[u16], rules: &[u64], grid: Grid, p: usize, q: usize, m: Mark) -> u8
+    requires { ⌜ Lies (now work) (now rules) grid p q × Walks p q m × (0 < m .c) ⌝ }
+    ensures { λ r. ⌜ r ≡ chosen (now (work .entry)) (now (rules .entry)) grid p q m ⌝ }
+{
+    let lefts = left_numbers(rules, q, m);
+    if empty_fits(work, rules, grid, p, q, m, lefts) {
+        return 0;
+    }
+    if top_fits(work, rules, grid, p, q, m, lefts) {
+        return 1;
+    }
+    if bottom_fits(work, rules, grid, p, q, m) {
+        return 2;
+    }
+    3
+}
+
+// Whether a letter has a top pin, of i that are left; and a bottom pin.
+fn has_top(letter: u8, i: usize) -> bool
+    ensures { λ r. ⌜ r ≡ hasTopPin letter i ⌝ }
+{
+    if i == 0 {
+        return false;
+    }
+    letter == 1 || letter == 3
+}
+
+fn has_bottom(letter: u8, j: usize) -> bool
+    ensures { λ r. ⌜ r ≡ hasBottomPin letter j ⌝ }
+{
+    if j == 0 {
+        return false;
+    }
+    letter == 2 || letter == 3
+}
+
+// One less, or 0.
+fn less(n: usize) -> usize
+    ensures { λ r. ⌜ r ≡ n - 1 ⌝ }
+{
+    if n == 0 { 0 } else { n - 1 }
+}
+
+fn pick(yes: bool, a: usize, b: usize) -> usize
+    ensures { λ r. ⌜ r ≡ cond yes a b ⌝ }
+{
+    if yes { a } else { b }
+}
+
+// The walk behind a letter.
+fn go(letter: u8, m: Mark) -> Mark
+    requires { ⌜ 0 < m .c ⌝ }
+    ensures { λ r. ⌜ r ≡ behind letter m ⌝ }
+{
+    let top = has_top(letter, m.i);
+    let bottom = has_bottom(letter, m.j);
+    Mark {
+        c: m.c - 1,
+        i: pick(top, less(m.i), m.i),
+        j: pick(bottom, less(m.j), m.j),
+        top: pick(top, m.c, m.top),
+        bottom: pick(bottom, m.c, m.bottom),
+    }
+}
+
+// Writes a column, if there is a pin in it.
+fn put_one(columns: &mut [u8], yes: bool, at: usize, c: u8)
+    requires { ⌜ (yes ≡ true → at < length (now columns)) ⌝ }
+    ensures { λ _. ⌜ now (columns .exit) ≡ cond yes (set (now (columns .entry)) at c) (now (columns .entry)) ⌝ }
+{
+    if yes {
+        columns[at] = c;
+    }
+}
+
+// Writes a letter's columns.
+fn put(columns: &mut [u8], p: usize, letter: u8, m: Mark)
+    requires { ⌜ (m .c ≤ 64) × (m .i ≤ p) × (p + m .j ≤ length (now columns)) ⌝ }
+    ensures { λ _. ⌜ now (columns .exit) ≡ written p letter m (now (columns .entry)) ⌝ }
+{
+    let c = m.c as u8;
+    put_one(columns, has_top(letter, m.i), less(m.i), c);
+    put_one(columns, has_bottom(letter, m.j), p + less(m.j), c);
+}
+
+// Writes the columns of the walk over a filled table.
+pub fn walk(
+    work: &[u16],
+    rules: &[u64],
+    grid: Grid,
+    p: usize,
+    q: usize,
+    l: usize,
+    columns: &mut [u8],
+)
+    requires { ⌜ Lies (now work) (now rules) grid p q × (l ≤ 64) × (p + q ≤ length (now columns)) ⌝ }
+    ensures { λ _. ⌜ now (columns .exit) ≡ walked (now (work .entry)) (now (rules .entry)) grid p q l (record { c = l; i = p; j = q; top = 0; bottom = 0 }) (now (columns .entry)) ⌝ }
+{
+    let mut m = Mark {
+        c: l,
+        i: p,
+        j: q,
+        top: 0,
+        bottom: 0,
+    };
+    let mut left = l;
+    while 0 < left {
+        let letter = choose(work, rules, grid, p, q, m);
+        put(columns, p, letter, m);
+        m = go(letter, m);
+        left -= 1;
+    }
+}
