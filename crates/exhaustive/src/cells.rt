@@ -73,3 +73,8 @@ pub fn low_byte(x: u64) -> u8
 {
     (x % 256) as u8
 }
+
+// One less, and 0 for 0.
+pub fn less(n: usize) -> usize {
+    if n == 0 { 0 } else { n - 1 }
+}

@@ -4,12 +4,13 @@ use crate::sheets::Plan;
 use crate::sheets::pins;
 ghost use Prim.Native.Nat.{_≤_};
 
-// The best list of columns: its number, its density, and its word, whose letters are the digits of two numbers
-// to the base 4: columns 33 to 64 in the upper one, 1 to 32 in the lower.
+// The best list of columns: its number, its density, whether another one has this density, and its word, whose
+// letters are the digits of two numbers to the base 4: columns 33 to 64 in the upper one, 1 to 32 in the lower.
 pub struct Best {
     pub found: bool,
     pub list: u64,
     pub density: u8,
+    pub tied: bool,
     pub upper: u64,
     pub lower: u64,
 }
@@ -19,6 +20,7 @@ fn none() -> Best {
         found: false,
         list: 0,
         density: 0,
+        tied: false,
         upper: 0,
         lower: 0,
     }
@@ -26,7 +28,7 @@ fn none() -> Best {
 
 // Puts each set into `choices`, 65 places for a terminal: how many columns, then the columns.
 // Returns how many lists there are.
-fn write_choices(plan: Plan, terminals: &[u64], choices: &mut [u8]) -> u64 {
+pub fn write_choices(plan: Plan, terminals: &[u64], choices: &mut [u8]) -> u64 {
     let end = pins(plan);
     let mut lists: u64 = 1;
     let mut t = 0;
@@ -64,7 +66,7 @@ fn write_columns(set: u64, t: usize, choices: &mut [u8]) -> u8
 }
 
 // Puts the list of this number into `list`: its digits, to the bases of the sets' sizes, are the choices.
-fn write_list(number: u64, plan: Plan, choices: &[u8], list: &mut [u8]) {
+pub fn write_list(number: u64, plan: Plan, choices: &[u8], list: &mut [u8]) {
     let end = pins(plan);
     let mut rest = number;
     let mut t = 0;
@@ -90,7 +92,7 @@ fn quotient(x: u64, size: u8) -> u64 {
 }
 
 // Whether the list is an assignment, all its columns being allowed.
-fn distances_fit(plan: Plan, terminals: &[u64], list: &[u8]) -> bool {
+pub fn distances_fit(plan: Plan, terminals: &[u64], list: &[u8]) -> bool {
     let end = pins(plan);
     let mut t = 0;
     while t < end {
@@ -182,7 +184,7 @@ fn one_more(n: u8) -> u8 {
     if n < 255 { n + 1 } else { n }
 }
 
-fn density(terminals: &[u64], list: &[u8], end: usize, length: u8) -> u8 {
+pub fn density(terminals: &[u64], list: &[u8], end: usize, length: u8) -> u8 {
     let mut most: u8 = 0;
     let mut c: u8 = 0;
     while c < length {
@@ -224,18 +226,37 @@ fn letter(column: u8, from: u8, top: bool) -> u64 {
     }
 }
 
-// Whether a comes before b: less density, or the same and the smaller word.
-fn better(a: Best, b: Best) -> bool {
-    if !b.found {
-        return true;
-    }
-    if a.density != b.density {
-        return a.density < b.density;
-    }
+// Whether the word of a is smaller.
+fn smaller_word(a: Best, b: Best) -> bool {
     if a.upper != b.upper {
         return a.upper < b.upper;
     }
     a.lower < b.lower
+}
+
+fn tied(best: Best) -> Best {
+    Best {
+        found: best.found,
+        list: best.list,
+        density: best.density,
+        tied: true,
+        upper: best.upper,
+        lower: best.lower,
+    }
+}
+
+// The better of two: less density, or the same and the smaller word.
+fn better(a: Best, b: Best) -> Best {
+    if !b.found {
+        return a;
+    }
+    if a.density < b.density {
+        return a;
+    }
+    if b.density < a.density {
+        return b;
+    }
+    if smaller_word(a, b) { tied(a) } else { tied(b) }
 }
 
 fn weigh(number: u64, plan: Plan, terminals: &[u64], list: &[u8]) -> Best {
@@ -243,6 +264,7 @@ fn weigh(number: u64, plan: Plan, terminals: &[u64], list: &[u8]) -> Best {
         found: true,
         list: number,
         density: density(terminals, list, pins(plan), plan.length),
+        tied: false,
         upper: letters(plan, list, 32),
         lower: letters(plan, list, 0),
     }
@@ -253,8 +275,7 @@ fn compare(number: u64, plan: Plan, terminals: &[u64], list: &[u8], best: Best) 
     if !distances_fit(plan, terminals, list) {
         return best;
     }
-    let tried = weigh(number, plan, terminals, list);
-    if better(tried, best) { tried } else { best }
+    better(weigh(number, plan, terminals, list), best)
 }
 
 // Tries all lists, one at a time in `list`.
@@ -269,11 +290,15 @@ fn try_all(lists: u64, plan: Plan, terminals: &[u64], choices: &[u8], list: &mut
     best
 }
 
-// The best assignment, whose columns are left in `list`.
-pub fn find_best(plan: Plan, terminals: &[u64], list: &mut [u8]) -> Best {
-    let mut choices = [0u8; 520];
-    let lists = write_choices(plan, terminals, &mut choices);
-    let best = try_all(lists, plan, terminals, &choices, list);
-    write_list(best.list, plan, &choices, list);
+// The best assignment, whose columns are left in `list`; the first list where there is none.
+pub fn find_best(
+    lists: u64,
+    plan: Plan,
+    terminals: &[u64],
+    choices: &[u8],
+    list: &mut [u8],
+) -> Best {
+    let best = try_all(lists, plan, terminals, choices, list);
+    write_list(best.list, plan, choices, list);
     best
 }

@@ -209,7 +209,8 @@ fn drawn_column(n: u64, plan: Plan, t: usize, what: u64) -> u64
     }
 }
 
-fn single(column: u8) -> u64 {
+// The set of this column alone, and the empty set where it is none of 1 to 64.
+pub fn single(column: u8) -> u64 {
     if column == 0 {
         return 0;
     }

@@ -1,19 +1,34 @@
-// One sheet: the library's search against the exhaustive one.
+// One sheet: the library's search against the exhaustive one, and its measurements against the program's own reading.
 use crate::bytes;
+use crate::cells::less;
 use crate::draws::draw;
 use crate::lists;
 use crate::lists::Best;
 use crate::marks;
+use crate::measures;
 use crate::report;
 use crate::sheets;
 use crate::sheets::Plan;
 use search::Searched;
 ghost use Prim.Native.Nat.{_≤_};
 
-// Whether the sheet has an assignment, and whether every call did what it must.
+// Whether the sheet has an assignment, and more than one of the least density, how many of the measured lists are
+// assignments, and whether every call did what it must.
 pub struct Trial {
     pub found: bool,
+    pub tied: bool,
+    pub assignments: u64,
     pub agrees: bool,
+}
+
+// A sheet's number and plan, how many lists of allowed columns it has, the best of them, and whether a call that does
+// not do what it must is shown.
+pub struct Case {
+    pub n: u64,
+    pub plan: Plan,
+    pub lists: u64,
+    pub best: Best,
+    pub shown: bool,
 }
 
 // How much of the sheet, of the column buffer and of the work buffer a call is lent.
@@ -113,42 +128,31 @@ fn show(n: u64, lent: Lent, expected: Expected, r: Searched, list: &[u8], column
 
 // One call; `list` has the columns that it is to write.
 fn call_agrees(
-    n: u64,
+    case: Case,
     lent: Lent,
     expected: Expected,
     s: &[u8],
     list: &[u8],
-    columns: &mut [u8],
     work: &mut [u16],
-    shown: bool,
 ) -> bool {
-    marks::mark_bytes(columns, lent.bytes);
+    let mut columns = [0u8; 12];
+    marks::mark_bytes(&mut columns, lent.bytes);
     marks::mark_cells(work, lent.cells);
-    let r = run(s, lent, columns, work);
-    let good = agrees(lent, expected, r, list, columns, work);
-    if !good && shown {
-        show(n, lent, expected, r, list, columns);
+    let r = run(s, lent, &mut columns, work);
+    let good = agrees(lent, expected, r, list, &columns, work);
+    if !good && case.shown {
+        show(case.n, lent, expected, r, list, &columns);
     }
     good
 }
 
-fn less(n: usize) -> usize {
-    if n == 0 { 0 } else { n - 1 }
+fn all(a: bool, b: bool, c: bool) -> bool {
+    a && b && c
 }
 
 // The refusals: a sheet cut by a byte, a work buffer that is one too short, and that with a column buffer that is
 // one too short, if there are columns.
-fn refusals_agree(
-    n: u64,
-    lent: Lent,
-    s: &[u8],
-    columns: &mut [u8],
-    work: &mut [u16],
-    shown: bool,
-) -> bool {
-    if n % 8 != 0 {
-        return true;
-    }
+fn refusals_agree(case: Case, lent: Lent, s: &[u8], work: &mut [u16]) -> bool {
     let cut = Lent {
         size: less(lent.size),
         bytes: lent.bytes,
@@ -167,41 +171,51 @@ fn refusals_agree(
     // a trailer without its last byte is too short by itself, and has no mark behind a record
     let short = if lent.bytes == 0 { 1 } else { 2 };
     let both = if lent.bytes == 0 { 10 } else { 9 };
-    let a = call_agrees(n, cut, refusal(short), s, s, columns, work, shown);
-    let b = call_agrees(n, few, refusal(10), s, s, columns, work, shown);
-    let c = call_agrees(n, fewer, refusal(both), s, s, columns, work, shown);
-    a && b && c
+    let a = call_agrees(case, cut, refusal(short), s, s, work);
+    let b = call_agrees(case, few, refusal(10), s, s, work);
+    let c = call_agrees(case, fewer, refusal(both), s, s, work);
+    all(a, b, c)
 }
 
 // The answer, in buffers of the needed length or a little longer.
-fn answers_agree(
-    n: u64,
-    lent: Lent,
-    best: Best,
-    s: &[u8],
-    list: &[u8],
-    columns: &mut [u8],
-    work: &mut [u16],
-    shown: bool,
-) -> bool
+fn answers_agree(case: Case, lent: Lent, s: &[u8], list: &[u8], work: &mut [u16]) -> bool
     requires { ⌜ (lent .bytes ≤ 510) × (lent .cells ≤ 4294967296) ⌝ }
 {
-    let spare = draw(n, 30, 0, 0, 4) as usize;
+    let spare = draw(case.n, 30, 0, 0, 4) as usize;
     let longer = Lent {
         size: lent.size,
         bytes: lent.bytes + spare,
         cells: lent.cells + spare,
     };
-    call_agrees(
-        n,
-        longer,
-        answer(best, lent.bytes, lent.cells),
-        s,
-        list,
-        columns,
-        work,
-        shown,
-    )
+    let expected = answer(case.best, lent.bytes, lent.cells);
+    call_agrees(case, longer, expected, s, list, work)
+}
+
+// Every call on the sheet s; `list` has the columns of the best list.
+fn try_calls(
+    case: Case,
+    terminals: &[u64],
+    choices: &[u8],
+    s: &[u8],
+    list: &[u8],
+    work: &mut [u16],
+) -> Trial {
+    let plan = case.plan;
+    let best = case.best;
+    let lent = Lent {
+        size: 12 * sheets::pins(plan) + 12,
+        bytes: sheets::pins(plan),
+        cells: cells_of(plan),
+    };
+    let refusals = refusals_agree(case, lent, s, work);
+    let answers = answers_agree(case, lent, s, list, work);
+    let measured = measures::measure_all(case, terminals, choices, s);
+    Trial {
+        found: best.found,
+        tied: best.tied,
+        assignments: measured.assignments,
+        agrees: all(refusals, answers, measured.wrong == 0),
+    }
 }
 
 pub fn try_sheet(n: u64, work: &mut [u16], shown: bool) -> Trial {
@@ -210,18 +224,16 @@ pub fn try_sheet(n: u64, work: &mut [u16], shown: bool) -> Trial {
     sheets::write_terminals(n, plan, &mut terminals);
     let mut s = [0u8; 108];
     bytes::write_sheet(plan, &terminals, &mut s);
+    let mut choices = [0u8; 520];
+    let lists = lists::write_choices(plan, &terminals, &mut choices);
     let mut list = [0u8; 8];
-    let best = lists::find_best(plan, &terminals, &mut list);
-    let lent = Lent {
-        size: 12 * sheets::pins(plan) + 12,
-        bytes: sheets::pins(plan),
-        cells: cells_of(plan),
+    let best = lists::find_best(lists, plan, &terminals, &choices, &mut list);
+    let case = Case {
+        n,
+        plan,
+        lists,
+        best,
+        shown,
     };
-    let mut columns = [0u8; 12];
-    let refusals = refusals_agree(n, lent, &s, &mut columns, work, shown);
-    let answers = answers_agree(n, lent, best, &s, &list, &mut columns, work, shown);
-    Trial {
-        found: best.found,
-        agrees: refusals && answers,
-    }
+    try_calls(case, &terminals, &choices, &s, &list, work)
 }

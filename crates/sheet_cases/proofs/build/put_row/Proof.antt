@@ -15,20 +15,8 @@ abbrev μ-loop : tie.MeasureT-loop
 loop-holds : tie.Need-loop-holds Inv-loop μ-loop
 loop-holds c = tt
 
-add-put : tie.Need-add-put Inv-loop μ-loop
-add-put c = omega arith
-
-element-copy-out-put : tie.Need-element-copy-out-put Inv-loop μ-loop
-element-copy-out-put c = omega arith
-
 put-requires : tie.Need-put-requires Inv-loop μ-loop
 put-requires c κs = tt
-
-add-k : tie.Need-add-k Inv-loop μ-loop
-add-k c = omega arith
-
-loop-less : tie.Need-loop-less Inv-loop μ-loop
-loop-less c = omega arith
 
 loop-again : tie.Need-loop-again Inv-loop μ-loop
 loop-again c = tt
@@ -46,11 +34,11 @@ put-row-spec =
     Inv-loop
     μ-loop
     loop-holds
-    add-put
-    element-copy-out-put
+    (λ c. omega arith)
+    (λ c. omega arith)
     put-requires
-    add-k
-    loop-less
+    (λ c. omega arith)
+    (λ c. omega arith)
     loop-again
     returns
     returns-2)

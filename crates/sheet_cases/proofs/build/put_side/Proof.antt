@@ -15,32 +15,11 @@ abbrev μ-loop : tie.MeasureT-loop
 loop-holds : tie.Need-loop-holds Inv-loop μ-loop
 loop-holds c = tt
 
-cast-number : tie.Need-cast-number Inv-loop μ-loop
-cast-number c = omega arith
-
-add-number : tie.Need-add-number Inv-loop μ-loop
-add-number c = omega arith
-
-add-number-2 : tie.Need-add-number-2 Inv-loop μ-loop
-add-number-2 c = omega arith
-
-cast-put-record : tie.Need-cast-put-record Inv-loop μ-loop
-cast-put-record c = omega arith
-
-add-put-record : tie.Need-add-put-record Inv-loop μ-loop
-add-put-record c = omega arith
-
 usual-record-requires : tie.Need-usual-record-requires Inv-loop μ-loop
 usual-record-requires c κs = tt
 
 put-record-requires : tie.Need-put-record-requires Inv-loop μ-loop
 put-record-requires c κs = tt
-
-add-k : tie.Need-add-k Inv-loop μ-loop
-add-k c = omega arith
-
-loop-less : tie.Need-loop-less Inv-loop μ-loop
-loop-less c = omega arith
 
 loop-again : tie.Need-loop-again Inv-loop μ-loop
 loop-again c = tt
@@ -55,14 +34,14 @@ put-side-spec =
     Inv-loop
     μ-loop
     loop-holds
-    cast-number
-    add-number
-    add-number-2
-    cast-put-record
-    add-put-record
+    (λ c. omega arith)
+    (λ c. omega arith)
+    (λ c. omega arith)
+    (λ c. omega arith)
+    (λ c. omega arith)
     usual-record-requires
     put-record-requires
-    add-k
-    loop-less
+    (λ c. omega arith)
+    (λ c. omega arith)
     loop-again
     returns)

@@ -15,17 +15,8 @@ abbrev μ-loop : tie.MeasureT-loop
 loop-holds : tie.Need-loop-holds Inv-loop μ-loop
 loop-holds c = tt
 
-shared-slice-read-byte : tie.Need-shared-slice-read-byte Inv-loop μ-loop
-shared-slice-read-byte c = omega arith
-
 byte-requires : tie.Need-byte-requires Inv-loop μ-loop
 byte-requires c κs = tt
-
-add-k : tie.Need-add-k Inv-loop μ-loop
-add-k c = omega arith
-
-loop-less : tie.Need-loop-less Inv-loop μ-loop
-loop-less c = omega arith
 
 loop-again : tie.Need-loop-again Inv-loop μ-loop
 loop-again c = tt
@@ -40,9 +31,9 @@ bytes-spec =
     Inv-loop
     μ-loop
     loop-holds
-    shared-slice-read-byte
+    (λ c. omega arith)
     byte-requires
-    add-k
-    loop-less
+    (λ c. omega arith)
+    (λ c. omega arith)
     loop-again
     returns)

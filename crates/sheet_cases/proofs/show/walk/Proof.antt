@@ -20,12 +20,6 @@ loop-holds c = tt
 indented-step-requires : tie.Need-indented-step-requires Inv-loop μ-loop
 indented-step-requires c κs = tt
 
-add-counter : tie.Need-add-counter Inv-loop μ-loop
-add-counter c = omega arith
-
-loop-less : tie.Need-loop-less Inv-loop μ-loop
-loop-less c = omega arith
-
 loop-again : tie.Need-loop-again Inv-loop μ-loop
 loop-again c = tt
 
@@ -41,7 +35,7 @@ walk-spec =
     new-requires
     loop-holds
     indented-step-requires
-    add-counter
-    loop-less
+    (λ c. omega arith)
+    (λ c. omega arith)
     loop-again
     returns)
