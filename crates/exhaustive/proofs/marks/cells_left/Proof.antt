@@ -11,41 +11,17 @@ Inv-loop work cleared end i₀ i = Unit {0}
 abbrev μ-loop : tie.MeasureT-loop
 μ-loop work cleared end i₀ i = end - i
 
-loop-holds : tie.Need-loop-holds Inv-loop μ-loop
-loop-holds c = search needs
-
-cell-mark-requires : tie.Need-cell-mark-requires Inv-loop μ-loop
-cell-mark-requires c κs = search needs
-
-cell-requires : tie.Need-cell-requires Inv-loop μ-loop
-cell-requires c κs = search needs
-
-returns : tie.Need-returns Inv-loop μ-loop
-returns c = search needs
-
-add-i : tie.Need-add-i Inv-loop μ-loop
-add-i c = search needs
-
-loop-less : tie.Need-loop-less Inv-loop μ-loop
-loop-less c = search needs
-
-loop-again : tie.Need-loop-again Inv-loop μ-loop
-loop-again c = search needs
-
-returns-2 : tie.Need-returns-2 Inv-loop μ-loop
-returns-2 c = search needs
-
 pub cells-left-spec : {M : Type 1} → statement M
 cells-left-spec =
     tie.close
     (tie.spec
     Inv-loop
     μ-loop
-    loop-holds
-    cell-mark-requires
-    cell-requires
-    returns
-    add-i
-    loop-less
-    loop-again
-    returns-2)
+    (λ c. search needs)
+    (λ c κs. search needs)
+    (λ c κs. search needs)
+    (λ c. search needs)
+    (λ c. search needs)
+    (λ c. search needs)
+    (λ c. search needs)
+    (λ c. search needs))

@@ -7,31 +7,19 @@ use borrow.Author.Needs.{needs}
 use Rattle.exhaustive.proofs.measures.run.Statement.{statement}
 use Rattle.exhaustive.proofs.measures.run.Tie as tie
 
-returns : tie.Need-returns
-returns c = search needs
-
-returns-2 : tie.Need-returns-2
-returns-2 c = search needs
-
 slice-aggregate-measure : tie.Need-slice-aggregate-measure
 slice-aggregate-measure c = sym (length-take-le _ _ (omega arith))
 
 slice-aggregate-measure-2 : tie.Need-slice-aggregate-measure-2
 slice-aggregate-measure-2 c = sym (length-take-le _ _ (omega arith))
 
-measure-requires : tie.Need-measure-requires
-measure-requires c κs = search needs
-
-returns-3 : tie.Need-returns-3
-returns-3 c = search needs
-
 pub run-spec : {M : Type 1} → statement M
 run-spec =
     tie.close
     (tie.spec
-    returns
-    returns-2
+    (λ c. search needs)
+    (λ c. search needs)
     slice-aggregate-measure
     slice-aggregate-measure-2
-    measure-requires
-    returns-3)
+    (λ c κs. search needs)
+    (λ c. search needs))

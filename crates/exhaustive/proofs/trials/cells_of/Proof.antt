@@ -20,32 +20,8 @@ all c =
     (square (plan .top) (plan .bottom) (omega arith) (omega arith))
     (square (plan .length) (plan .length) (omega arith) (omega arith))
 
-cast-plane : tie.Need-cast-plane
-cast-plane c = search needs
-
-add-plane : tie.Need-add-plane
-add-plane c = search needs
-
-cast-plane-2 : tie.Need-cast-plane-2
-cast-plane-2 c = search needs
-
-add-plane-2 : tie.Need-add-plane-2
-add-plane-2 c = search needs
-
 mul-plane : tie.Need-mul-plane
 mul-plane c = omega (arith, square (c .before .before .args .plan .length) (c .before .before .args .plan .length) (omega arith) (omega arith))
-
-cast-result : tie.Need-cast-result
-cast-result c = search needs
-
-add-result : tie.Need-add-result
-add-result c = search needs
-
-cast-result-2 : tie.Need-cast-result-2
-cast-result-2 c = search needs
-
-add-result-2 : tie.Need-add-result-2
-add-result-2 c = search needs
 
 mul-result : tie.Need-mul-result
 mul-result c = omega (arith, square (c .before .before .before .before .args .plan .top) (c .before .before .before .before .args .plan .bottom) (omega arith) (omega arith))
@@ -60,15 +36,15 @@ pub cells-of-spec : {M : Type 1} → statement M
 cells-of-spec =
     tie.close
     (tie.spec
-    cast-plane
-    add-plane
-    cast-plane-2
-    add-plane-2
+    (λ c. search needs)
+    (λ c. search needs)
+    (λ c. search needs)
+    (λ c. search needs)
     mul-plane
-    cast-result
-    add-result
-    cast-result-2
-    add-result-2
+    (λ c. search needs)
+    (λ c. search needs)
+    (λ c. search needs)
+    (λ c. search needs)
     mul-result
     mul-result-2
     returns)

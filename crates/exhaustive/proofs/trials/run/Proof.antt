@@ -7,32 +7,14 @@ use borrow.Author.Needs.{needs}
 use Rattle.exhaustive.proofs.trials.run.Statement.{statement}
 use Rattle.exhaustive.proofs.trials.run.Tie as tie
 
-returns : tie.Need-returns
-returns c = search needs
-
-returns-2 : tie.Need-returns-2
-returns-2 c = search needs
-
-returns-3 : tie.Need-returns-3
-returns-3 c = search needs
-
 slice-aggregate-search : tie.Need-slice-aggregate-search
 slice-aggregate-search c = sym (length-take-le _ _ (omega arith))
-
-slice-relend-prefix-search : tie.Need-slice-relend-prefix-search
-slice-relend-prefix-search c = search needs
 
 slice-aggregate-search-2 : tie.Need-slice-aggregate-search-2
 slice-aggregate-search-2 c = sym (length-take-le _ _ (omega arith))
 
-slice-relend-prefix-search-2 : tie.Need-slice-relend-prefix-search-2
-slice-relend-prefix-search-2 c = search needs
-
 slice-aggregate-search-3 : tie.Need-slice-aggregate-search-3
 slice-aggregate-search-3 c = sym (length-take-le _ _ (omega arith))
-
-search-requires : tie.Need-search-requires
-search-requires c κs = search needs
 
 same-length : tie.Need-same-length
 same-length c =
@@ -53,15 +35,15 @@ pub run-spec : {M : Type 1} → statement M
 run-spec =
     tie.close
     (tie.spec
-    returns
-    returns-2
-    returns-3
+    (λ c. search needs)
+    (λ c. search needs)
+    (λ c. search needs)
     slice-aggregate-search
-    slice-relend-prefix-search
+    (λ c. search needs)
     slice-aggregate-search-2
-    slice-relend-prefix-search-2
+    (λ c. search needs)
     slice-aggregate-search-3
-    search-requires
+    (λ c κs. search needs)
     same-length
     same-length-2
     returns-4)

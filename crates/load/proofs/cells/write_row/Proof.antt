@@ -20,20 +20,11 @@ abbrev μ-loop : tie.MeasureT-loop
 loop-holds : tie.Need-loop-holds Inv-loop μ-loop
 loop-holds c = (omega arith, written-none _ _ _ _ (λ x y r. omega (arith, r .1)))
 
-add-loop : tie.Need-add-loop Inv-loop μ-loop
-add-loop c = omega arith
-
 write-cell-requires : tie.Need-write-cell-requires Inv-loop μ-loop
 write-cell-requires c κs =
     let d = c .before .before .before .before .before .before .before in
     let l = c .before .before .loop in
     (d .pre .0, d .pre .1, omega arith, l .inv .1 .size ∙ d .pre .2)
-
-add-j : tie.Need-add-j Inv-loop μ-loop
-add-j c = omega arith
-
-loop-less : tie.Need-loop-less Inv-loop μ-loop
-loop-less c = omega arith
 
 loop-again : tie.Need-loop-again Inv-loop μ-loop
 loop-again c =
@@ -57,10 +48,10 @@ write-row-spec =
     Inv-loop
     μ-loop
     loop-holds
-    add-loop
+    (λ c. omega arith)
     write-cell-requires
-    add-j
-    loop-less
+    (λ c. omega arith)
+    (λ c. omega arith)
     loop-again
     same-length
     returns)

@@ -19,17 +19,8 @@ abbrev μ-loop : tie.MeasureT-loop
 loop-holds : tie.Need-loop-holds Inv-loop μ-loop
 loop-holds c = (omega arith, refl)
 
-span-at-requires : tie.Need-span-at-requires Inv-loop μ-loop
-span-at-requires c κs = omega arith
-
 with-net-requires : tie.Need-with-net-requires Inv-loop μ-loop
 with-net-requires c κs = loads-small _ _ (c .before .before .loop .m) _ (c .before .before .loop .inv .1) (omega arith)
-
-add-m : tie.Need-add-m Inv-loop μ-loop
-add-m c = omega arith
-
-loop-less : tie.Need-loop-less Inv-loop μ-loop
-loop-less c = omega arith
 
 loop-again : tie.Need-loop-again Inv-loop μ-loop
 loop-again c =
@@ -57,9 +48,9 @@ loads-at-spec =
     Inv-loop
     μ-loop
     loop-holds
-    span-at-requires
+    (λ c κs. omega arith)
     with-net-requires
-    add-m
-    loop-less
+    (λ c. omega arith)
+    (λ c. omega arith)
     loop-again
     returns)

@@ -6,24 +6,12 @@ use borrow.Author.Needs.{needs}
 use Rattle.load.proofs.counting.stand_at.Statement.{statement}
 use Rattle.load.proofs.counting.stand_at.Tie as tie
 
-cast-count : tie.Need-cast-count
-cast-count c = search needs
-
 returns : tie.Need-returns
 returns c = rw (c .if1 .taken)
-
-sub-t5 : tie.Need-sub-t5
-sub-t5 c = search needs
-
-mul-t6 : tie.Need-mul-t6
-mul-t6 c = search needs
-
-shared-slice-read-t8 : tie.Need-shared-slice-read-t8
-shared-slice-read-t8 c = search needs
 
 returns-2 : tie.Need-returns-2
 returns-2 c = stand-some (c .before .before .args .ns .now) (c .before .before .args .i) (c .before .if1 .left)
 
 pub stand-at-spec : {M : Type 1} → statement M
 stand-at-spec =
-    tie.close (tie.spec cast-count returns sub-t5 mul-t6 shared-slice-read-t8 returns-2)
+    tie.close (tie.spec (λ c. search needs) returns (λ c. search needs) (λ c. search needs) (λ c. search needs) returns-2)

@@ -5,24 +5,6 @@ use borrow.Author.Needs.{needs}
 use Rattle.load.proofs.counting.with_net.Statement.{statement}
 use Rattle.load.proofs.counting.with_net.Tie as tie
 
-crosses-requires : tie.Need-crosses-requires
-crosses-requires c κs = search needs
-
-crosses-requires-2 : tie.Need-crosses-requires-2
-crosses-requires-2 c κs = search needs
-
-crosses-requires-3 : tie.Need-crosses-requires-3
-crosses-requires-3 c κs = search needs
-
-add-if-requires : tie.Need-add-if-requires
-add-if-requires c κs = search needs
-
-add-if-requires-2 : tie.Need-add-if-requires-2
-add-if-requires-2 c κs = search needs
-
-add-if-requires-3 : tie.Need-add-if-requires-3
-add-if-requires-3 c κs = search needs
-
 returns : tie.Need-returns
 returns c =
     let at-crosses3 = c .before .before .before in
@@ -38,10 +20,10 @@ pub with-net-spec : {M : Type 1} → statement M
 with-net-spec =
     tie.close
     (tie.spec
-    crosses-requires
-    crosses-requires-2
-    crosses-requires-3
-    add-if-requires
-    add-if-requires-2
-    add-if-requires-3
+    (λ c κs. search needs)
+    (λ c κs. search needs)
+    (λ c κs. search needs)
+    (λ c κs. search needs)
+    (λ c κs. search needs)
+    (λ c κs. search needs)
     returns)

@@ -5,18 +5,6 @@ use borrow.Author.Needs.{needs}
 use Rattle.load.proofs.nets.net_of.Statement.{statement}
 use Rattle.load.proofs.nets.net_of.Tie as tie
 
-add-record-in : tie.Need-add-record-in
-add-record-in c = search needs
-
-record-in-requires : tie.Need-record-in-requires
-record-in-requires c κs = search needs
-
-enum-known-entry : tie.Need-enum-known-entry
-enum-known-entry c = search needs
-
-enum-told : tie.Need-enum-told
-enum-told c = search needs
-
 returns : tie.Need-returns
 returns c = found-net _ _ _ (c .before .before .before .record-in .ensures) _ (c .before .entry .given .1)
 
@@ -26,4 +14,4 @@ returns-2 c = no-net _ _ _ (c .before .before .record-in .ensures) (c .enum-told
 pub net-of-spec : {M : Type 1} → statement M
 net-of-spec =
     tie.close
-    (tie.spec add-record-in record-in-requires enum-known-entry enum-told returns returns-2)
+    (tie.spec (λ c. search needs) (λ c κs. search needs) (λ c. search needs) (λ c. search needs) returns returns-2)

@@ -24,24 +24,6 @@ loop-holds c =
     let a = c .before .before .before .args in
     (refl, omega arith, paste-zero (a .nets .now) (a .from) (netsIn (a .part .now)))
 
-net-of-requires : tie.Need-net-of-requires Inv-loop μ-loop
-net-of-requires c κs = omega arith
-
-add-nets : tie.Need-add-nets Inv-loop μ-loop
-add-nets c = omega arith
-
-mul-nets : tie.Need-mul-nets Inv-loop μ-loop
-mul-nets c = omega arith
-
-slice-write-nets : tie.Need-slice-write-nets Inv-loop μ-loop
-slice-write-nets c = omega arith
-
-add-i : tie.Need-add-i Inv-loop μ-loop
-add-i c = omega arith
-
-loop-less : tie.Need-loop-less Inv-loop μ-loop
-loop-less c = omega arith
-
 loop-again : tie.Need-loop-again Inv-loop μ-loop
 loop-again c =
     let start = c .before .before .before .before .before .before in
@@ -71,12 +53,12 @@ read-nets-spec =
     μ-loop
     (λ c κs. search needs)
     loop-holds
-    net-of-requires
-    add-nets
-    mul-nets
-    slice-write-nets
-    add-i
-    loop-less
+    (λ c κs. omega arith)
+    (λ c. omega arith)
+    (λ c. omega arith)
+    (λ c. omega arith)
+    (λ c. omega arith)
+    (λ c. omega arith)
     loop-again
     same-length
     returns)

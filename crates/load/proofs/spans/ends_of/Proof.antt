@@ -22,24 +22,6 @@ loop-holds : tie.Need-loop-holds Inv-loop μ-loop
 unfolding endsOf
 loop-holds c = (omega arith, refl)
 
-mul-same : tie.Need-mul-same Inv-loop μ-loop
-mul-same c = omega arith
-
-shared-slice-read-same : tie.Need-shared-slice-read-same Inv-loop μ-loop
-shared-slice-read-same c = omega arith
-
-add-i : tie.Need-add-i Inv-loop μ-loop
-add-i c = omega arith
-
-cast-reach : tie.Need-cast-reach Inv-loop μ-loop
-cast-reach c = omega arith
-
-reach-requires : tie.Need-reach-requires Inv-loop μ-loop
-reach-requires c κs = search needs
-
-loop-less : tie.Need-loop-less Inv-loop μ-loop
-loop-less c = omega arith
-
 loop-again : tie.Need-loop-again Inv-loop μ-loop
 loop-again c =
     let at-loop = c .before .before .before in
@@ -64,11 +46,11 @@ ends-of-spec =
     Inv-loop
     μ-loop
     loop-holds
-    mul-same
-    shared-slice-read-same
-    add-i
-    cast-reach
-    reach-requires
-    loop-less
+    (λ c. omega arith)
+    (λ c. omega arith)
+    (λ c. omega arith)
+    (λ c. omega arith)
+    (λ c κs. search needs)
+    (λ c. omega arith)
     loop-again
     returns)

@@ -14,30 +14,6 @@ use borrow.Author.Needs.{needs}
 use Rattle.load.proofs.spans.list_net.Statement.{statement}
 use Rattle.load.proofs.spans.list_net.Tie as tie
 
-mul-net : tie.Need-mul-net
-mul-net c = search needs
-
-shared-slice-read-net : tie.Need-shared-slice-read-net
-shared-slice-read-net c = search needs
-
-add-next : tie.Need-add-next
-add-next c = search needs
-
-mul-stands : tie.Need-mul-stands
-mul-stands c = search needs
-
-sub-stands : tie.Need-sub-stands
-sub-stands c = search needs
-
-part-stands-start : tie.Need-part-stands-start
-part-stands-start c = search needs
-
-part-stands-end : tie.Need-part-stands-end
-part-stands-end c = search needs
-
-stands-requires : tie.Need-stands-requires
-stands-requires c κs = search needs
-
 returns : tie.Need-returns
 returns c =
     let a = c .before .before .before .before .before .before .args in
@@ -49,33 +25,12 @@ returns c =
 slice-aggregate-span-of : tie.Need-slice-aggregate-span-of
 slice-aggregate-span-of c = sym (length-take-le _ _ (c .before .before .before .before .before .before .before .pre .0 .split))
 
-mul-span-of : tie.Need-mul-span-of
-mul-span-of c = search needs
-
-sub-span-of : tie.Need-sub-span-of
-sub-span-of c = search needs
-
-part-span-of-start : tie.Need-part-span-of-start
-part-span-of-start c = search needs
-
-part-span-of-end : tie.Need-part-span-of-end
-part-span-of-end c = search needs
-
 span-of-requires : tie.Need-span-of-requires
 span-of-requires c κs =
     let d = c .before .before .before .before .before .before .before .before in
     let ns = d .args .nets .now in
     let p = d .pre .0 in
     (omega (arith, length-take-le (d .args .p) ns (p .split), p .top), rw (part-rest ns (d .args .p), length-drop) (omega (arith, p .bottom)))
-
-write-span-requires : tie.Need-write-span-requires
-write-span-requires c κs = search needs
-
-add-result : tie.Need-add-result
-add-result c = search needs
-
-same-length : tie.Need-same-length
-same-length c = search needs
 
 returns-2 : tie.Need-returns-2
 returns-2 c =
@@ -94,22 +49,22 @@ pub list-net-spec : {M : Type 1} → statement M
 list-net-spec =
     tie.close
     (tie.spec
-    mul-net
-    shared-slice-read-net
-    add-next
-    mul-stands
-    sub-stands
-    part-stands-start
-    part-stands-end
-    stands-requires
+    (λ c. search needs)
+    (λ c. search needs)
+    (λ c. search needs)
+    (λ c. search needs)
+    (λ c. search needs)
+    (λ c. search needs)
+    (λ c. search needs)
+    (λ c κs. search needs)
     returns
     slice-aggregate-span-of
-    mul-span-of
-    sub-span-of
-    part-span-of-start
-    part-span-of-end
+    (λ c. search needs)
+    (λ c. search needs)
+    (λ c. search needs)
+    (λ c. search needs)
     span-of-requires
-    write-span-requires
-    add-result
-    same-length
+    (λ c κs. search needs)
+    (λ c. search needs)
+    (λ c. search needs)
     returns-2)

@@ -32,12 +32,6 @@ list-net-requires c κs =
     let l = c .before .before .loop in
     (d .pre .0, c .before .loop-test .taken, omega arith, l .inv .0 ∙ d .pre .1)
 
-add-m : tie.Need-add-m Inv-loop μ-loop
-add-m c = omega arith
-
-loop-less : tie.Need-loop-less Inv-loop μ-loop
-loop-less c = omega arith
-
 loop-again : tie.Need-loop-again Inv-loop μ-loop
 loop-again c =
     let a = c .before .before .before .before .before .before .before .before .args in
@@ -71,8 +65,8 @@ list-spans-spec =
     μ-loop
     loop-holds
     list-net-requires
-    add-m
-    loop-less
+    (λ c. omega arith)
+    (λ c. omega arith)
     loop-again
     same-length
     returns)
