@@ -1,6 +1,6 @@
 -- Laws of the loads of a cut: what is put in is read again, and the loads of every other cut are as they were.
 -- Assumes nothing.
-use Prim.Native.Nat.{ℕ, _+_, _≤_}
+use Prim.Native.Nat.{ℕ, _+_, _/_, _%_, _≤_, _<_}
 use mathlib.Core.Path.{_≡_, _∙_, ap}
 use mathlib.Core.List.{List}
 use native.Mathlib.Omega.{arith}
@@ -9,6 +9,12 @@ use lib.ListN.{length, getD, set, length-set}
 use lib.Seq.{getD-set-same, getD-set-other}
 use Rattle.arrays.specs.Rules.{pins}
 use Rattle.arrays.specs.Loads.{loadBytes, cutPlace, loadAt, putLoads}
+
+-- every byte is a load of some cut, so that what is said of all cuts is said of every byte
+pub every-load :
+    (k : ℕ) → k < loadBytes
+    → (i : ℕ) × (j : ℕ) × (letter : ℕ) × (i ≤ pins) × (j ≤ pins) × (letter ≤ 2) × (k ≡ cutPlace i j + letter)
+every-load k h = (k / 3 / 65, k / 3 % 65, k % 3, omega arith, omega arith, omega arith, omega arith)
 
 pub length-put-loads : (loads : List ℕ) (i j top bottom both : ℕ) → length (putLoads loads i j top bottom both) ≡ length loads
 length-put-loads loads i j top bottom both = simp length-set

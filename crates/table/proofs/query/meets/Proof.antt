@@ -1,15 +1,16 @@
 -- `table::meets` meets its contract. The loop's invariant: none of the rows passed meets. The measure is how many are left.
 -- Assumes nothing.
-use Prim.Native.Nat.{ℕ, suc, _≤_, _-_, _+_}
+use Prim.Native.Nat.{ℕ, suc, _≤_, _-_, _+_, _*_}
 use mathlib.Core.Path.{_≡_, _∙_, sym, ap}
 use mathlib.Core.Bool.{false, _&&_}
 use mathlib.Core.Logic.{⊎-elim}
 use native.Mathlib.Omega.{arith}
 use borrow.Author.Needs.{needs}
+use lib.ListN.{length}
 use lib.Dec.{leb}
 use Rattle.bits.specs.Bits.{bitOf, some, inWord}
 use Rattle.table.specs.Entry.{held}
-use Rattle.table.specs.Room.{heldAt, meeting}
+use Rattle.table.specs.Room.{baseOf, heldAt, meeting}
 use Rattle.table.proofs.Planes.{row-room}
 use Rattle.table.proofs.Unions.{none-before, row-misses, row-skipped, row-meets, none-meets}
 use Rattle.table.proofs.query.meets.Statement.{statement}
@@ -23,23 +24,23 @@ Inv-loop work i j low high next by mask base x₀ x =
 abbrev μ-loop : tie.MeasureT-loop
 μ-loop work i j low high next by mask base x₀ x = high + 1 - x
 
-mul-base : tie.Need-mul-base Inv-loop μ-loop
-mul-base c =
-    let start = c .before .before in
+-- the last row asked lies in the cells
+last-row :
+    (start : tie.Start Inv-loop μ-loop)
+    → let a = start .args in
+    baseOf (a .grid) (a .i) (a .j) + 4 * a .high + 4 ≤ length (a .work .now)
+last-row start =
     let a = start .args in
-    omega (arith, row-room (a .grid) (a .i) (a .work .now) (a .j) (a .high) (start .pre .0) (start .pre .1) (start .pre .3))
+    row-room (a .grid) (a .i) (a .work .now) (a .j) (a .high) (start .pre .0) (start .pre .1) (start .pre .3)
+
+mul-base : tie.Need-mul-base Inv-loop μ-loop
+mul-base c = omega (arith, last-row (c .before .before))
 
 mul-base-2 : tie.Need-mul-base-2 Inv-loop μ-loop
-mul-base-2 c =
-    let start = c .before .before .before in
-    let a = start .args in
-    omega (arith, row-room (a .grid) (a .i) (a .work .now) (a .j) (a .high) (start .pre .0) (start .pre .1) (start .pre .3))
+mul-base-2 c = omega (arith, last-row (c .before .before .before))
 
 add-base : tie.Need-add-base Inv-loop μ-loop
-add-base c =
-    let start = c .before .before .before in
-    let a = start .args in
-    omega (arith, row-room (a .grid) (a .i) (a .work .now) (a .j) (a .high) (start .pre .0) (start .pre .1) (start .pre .3))
+add-base c = omega (arith, last-row (c .before .before .before))
 
 loop-holds : tie.Need-loop-holds Inv-loop μ-loop
 loop-holds c =
@@ -51,18 +52,10 @@ loop-holds c =
     )
 
 add-read-word : tie.Need-add-read-word Inv-loop μ-loop
-add-read-word c =
-    let at-loop = c .before .before .before in
-    let start = at-loop .before .before .before .before in
-    let a = start .args in
-    omega (arith, row-room (a .grid) (a .i) (a .work .now) (a .j) (a .high) (start .pre .0) (start .pre .1) (start .pre .3))
+add-read-word c = omega (arith, last-row (c .before .before .before .before .before .before .before))
 
 read-word-requires : tie.Need-read-word-requires Inv-loop μ-loop
-read-word-requires c κs =
-    let at-loop = c .before .before .before in
-    let start = at-loop .before .before .before .before in
-    let a = start .args in
-    omega (arith, row-room (a .grid) (a .i) (a .work .now) (a .j) (a .high) (start .pre .0) (start .pre .1) (start .pre .3))
+read-word-requires c κs = omega (arith, last-row (c .before .before .before .before .before .before .before))
 
 returns : tie.Need-returns Inv-loop μ-loop
 unfolding meeting
