@@ -62,3 +62,7 @@ maximumTo (suc k) f = max (f (suc k)) (maximumTo k f)
 -- "Density is the maximum over columns 1 to L, and 0 with no terminals"
 unfoldable pub density : Sheet → List ℕ → ℕ
 density s cs = maximumTo (s .columns) (columnDensity s cs)
+
+-- no density is above this: a sheet has at most 128 terminals, and so at most 128 nets, each of which counts once in a column
+abbrev pub mostDensity : ℕ
+mostDensity = 128

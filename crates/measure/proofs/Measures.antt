@@ -25,7 +25,8 @@ use Rattle.sheet.proofs.Laws.{opened-refused, Opens, opens}
 use Rattle.measure.specs.declared.Measured.{Measured}
 use Rattle.measure.specs.declared.Measured.the-variants.{Density, Sheet as Unsound, Count, Allowed, Distance}
 use Rattle.measure.specs.Answer.{sideAllowed, allAllowed, sideKept, distancesKept, unless, listMeasured, sheetMeasured, measuredOf}
-use Rattle.measure.specs.Inner.{sheetWith, Laid, pinsOf, netSpans, countedAt}
+use Rattle.spans.specs.Spans.{pinsOf}
+use Rattle.measure.specs.Inner.{sheetWith, Laid, netSpans, countedAt}
 
 -- the pins of terminals are those of their nets
 pins-nets : (ts : List Terminal) (cs : List ℕ) → pins ts cs ≡ pinsOf (nets ts) cs

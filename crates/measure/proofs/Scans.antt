@@ -5,36 +5,16 @@ use mathlib.Core.Path.{_≡_, refl, _∙_, ap}
 use mathlib.Core.List.{List, [], _∷_}
 use mathlib.Core.Bool.{Bool, true, false, cond, _&&_}
 use native.Mathlib.Omega.{arith}
-use native.Mathlib.Numerals.{add-one}
 use lib.ListN.{length, getD, drop, drop-of-length-le}
-use lib.Seq.{drop-cons}
 use lib.Dec.{eqb}
 use Rattle.channel.specs.Sheet.{Terminal}
 use Rattle.channel.specs.Assignment.{allows, inRange}
 use Rattle.terminal.specs.declared.Record.{Record}
-use Rattle.terminal.specs.Terminal.{recordOf}
-use Rattle.sheet.specs.Parts.{nth, terminalsIn, entryIn}
-use Rattle.sheet.proofs.Laws.{entry-in}
+use Rattle.sheet.specs.Parts.{terminalsIn, entryIn}
 use Rattle.measure.specs.Answer.{sideAllowed, laterKept, sideKept}
-use Rattle.measure.specs.Inner.{recordOr, ofSide}
-
--- the first of what is left of a list, and what stands behind it
-pub drop-next : {A : Type 0} (xs : List A) (i : ℕ) (d : A) → i < length xs → drop i xs ≡ getD xs i d ∷ drop (i + 1) xs
-drop-next xs i d h = rw add-one (drop-cons xs i d h)
-
--- stands past a side's end
-abbrev pub noTerminal : Terminal
-noTerminal = record { net = 0; least = 0; greatest = 0; allowed = 0 }
-
--- the record of an entry is that of the terminal
-nth-record : (ts : List Terminal) (i : ℕ) → recordOr (nth ts i) ≡ recordOf (getD ts i noTerminal)
-nth-record [] i = refl
-nth-record (t ∷ ts) zero = refl
-nth-record (t ∷ ts) (suc i) = nth-record ts i
-
--- the record at place i + 1 of a section is that of its terminal i
-pub record-terminal : (part : List ℕ) (i : ℕ) → recordOr (entryIn part (i + 1)) ≡ recordOf (getD (terminalsIn part) i noTerminal)
-record-terminal part i = rw (entry-in, add-one) (nth-record (terminalsIn part) i)
+use Rattle.spans.specs.Spans.{recordOr}
+use Rattle.spans.proofs.Nets.{drop-next, noTerminal, record-terminal}
+use Rattle.measure.specs.Inner.{ofSide}
 
 -- one place of a side, of which r is the record: the rest is said by the places behind it
 module _ (part columns : List ℕ) (same : length columns ≡ length (terminalsIn part)) (i : ℕ) (inside : i < length columns)

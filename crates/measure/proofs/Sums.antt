@@ -1,44 +1,24 @@
--- Laws of the counting: a scan of the pins finds a net's ends, and one addition for each net gives the crossings of every column.
+-- Laws of the counting: one addition for each net gives the crossings of every column.
 -- Assumes nothing.
 use Prim.Native.Nat.{ℕ, zero, suc, _+_, _-_, _≤_, _<_, max}
 use mathlib.Core.Path.{_≡_, refl, sym, _∙_, ap}
-use mathlib.Core.List.{List, [], _∷_, _++_, append-nil, map-append}
+use mathlib.Core.List.{List, [], _∷_}
 use mathlib.Core.Bool.{Bool, true, false, cond, _&&_, _||_}
 use native.Mathlib.Omega.{arith}
 use native.Mathlib.Numerals.{add-one}
 use native.Mathlib.Nat.{zero-add, add-zero}
 use native.Mathlib.Decide.{ℕ-discrete}
-use lib.ListN.{length, getD, take, drop, set, replicate, drop-of-length-le, length-map, length-append, length-drop, List·getD-map}
-use lib.Seq.{take-suc, take-suc-set, take-all, take-at, getD-set-same, getD-set-other}
+use lib.ListN.{length, getD, drop, set, replicate, drop-of-length-le}
+use lib.Seq.{getD-set-same, getD-set-other}
 use lib.Dec.{leb, ltb, eqb}
 use borrow.Author.Tests.{leb-true, leb-false, le-leb, ltb-true, ltb-false, lt-ltb, le-ltb}
 use Rattle.channel.specs.Density.{any, Pin, maximumTo}
 use Rattle.channel.proofs.Spans.{spans-from}
-use Rattle.channel.specs.Spans.{endFrom, sumLast, leftmost, rightmost}
-use Rattle.channel.specs.Sheet.{Terminal}
-use Rattle.channel.specs.Cut.{nets}
-use Rattle.terminal.specs.declared.Record.{Record}
-use Rattle.sheet.specs.Parts.{terminalsIn, entryIn}
-use Rattle.measure.specs.declared.count.Span.{Span}
-use Rattle.measure.specs.Inner.{recordOr, pinsOf, spanOf, netSpans, countedAt, Added, Small, within}
-use Rattle.measure.proofs.Scans.{drop-next, noTerminal, record-terminal}
-
--- whether a number is among those that are left
-pub any-more : (f : ℕ → Bool) (ns : List ℕ) (i : ℕ) → i < length ns → any f (drop i ns) ≡ (f (getD ns i 0) || any f (drop (i + 1) ns))
-any-more f ns i h = rw (drop-next ns i 0 h)
-
--- one end of a net: one pin more
-pub end-more :
-    (pick : ℕ → ℕ → ℕ) (start n : ℕ) (ns cs : List ℕ) (i : ℕ) → i < length ns → i < length cs
-    → endFrom pick start n (pinsOf (drop i ns) (drop i cs))
-    ≡ endFrom pick (cond (eqb (getD ns i 0) n) (pick start (getD cs i 0)) start) n (pinsOf (drop (i + 1) ns) (drop (i + 1) cs))
-end-more pick start n ns cs i h g = rw (drop-next ns i 0 h, drop-next cs i 0 g)
-
--- past the last pin the end is the one so far
-pub end-past :
-    (pick : ℕ → ℕ → ℕ) (start n : ℕ) (ns cs : List ℕ) (i : ℕ) → length ns ≤ i
-    → endFrom pick start n (pinsOf (drop i ns) (drop i cs)) ≡ start
-end-past pick start n ns cs i h = rw (drop-of-length-le ns h)
+use Rattle.channel.specs.Spans.{sumLast, leftmost, rightmost}
+use Rattle.spans.specs.declared.Span.{Span}
+use Rattle.spans.specs.Spans.{pinsOf, spanOf}
+use Rattle.spans.proofs.Nets.{drop-next}
+use Rattle.measure.specs.Inner.{netSpans, countedAt, Added, Small, within}
 
 -- the crossings of a column: one net more
 sum-more :
@@ -166,33 +146,3 @@ module _ (ns cs : List ℕ) (i : ℕ) (counts : List ℕ) (so-far : Counted ns c
     counted-last later after added c =
         let e = rw (sum-more (netSpans (pinsOf ns cs) c) ns i inside, later) at (so-far c) in
         omega (arith, e, added c)
-
--- the nets of a section: one more is stored, and at last all are
-module _ (part ns : List ℕ) (i : ℕ) (so-far : take i ns ≡ take i (nets (terminalsIn part))) where
-  pub nets-more :
-      i < length ns → i < length (terminalsIn part) → (r : Record) → r ≡ recordOr (entryIn part (i + 1))
-      → take (i + 1) (set ns i (r .net)) ≡ take (i + 1) (nets (terminalsIn part))
-  nets-more h g r answer =
-      let f : Terminal → ℕ = λ (t : Terminal). t .net in
-      let inside : i < length (nets (terminalsIn part)) = rw length-map g in
-      let net : getD (nets (terminalsIn part)) i 0 ≡ r .net
-      = List·getD-map f (terminalsIn part) i noTerminal ∙ ap (λ (q : Record). q .net) (sym (answer ∙ record-terminal part i)) in
-      rw (add-one, take-suc-set ns i (r .net) h, take-suc (nets (terminalsIn part)) i 0 inside, so-far, net)
-
-  pub nets-all : length ns ≡ length (terminalsIn part) → length ns ≤ i → ns ≡ nets (terminalsIn part)
-  nets-all same h = sym (take-all i ns h) ∙ so-far ∙ take-all i (nets (terminalsIn part)) (rw length-map (omega arith))
-
--- the nets of two lists of terminals, one behind the other
-pub length-nets : (ts us : List Terminal) → length (nets (ts ++ us)) ≡ length ts + length us
-length-nets ts us = length-map (ts ++ us) (λ (t : Terminal). t .net) ∙ length-append ts us
-
--- a list whose first p places and whose other places are filled with them
-pub nets-both :
-    (ts us : List Terminal) (xs first second : List ℕ) (p : ℕ) → p ≡ length ts → first ≡ nets ts → second ≡ nets us
-    → let ys : List ℕ = first ++ drop p xs in
-    take p ys ++ (second ++ drop (length ys - p) (drop p ys)) ≡ nets (ts ++ us)
-nets-both ts us xs first second p size e g =
-    let ys : List ℕ = first ++ drop p xs in
-    let fills : length first ≡ p = ap length e ∙ length-map ts (λ (t : Terminal). t .net) ∙ sym size in
-    let none : length (drop p ys) ≤ length ys - p = rw length-drop (omega arith) in
-    rw (take-at first (drop p xs) p fills, drop-of-length-le (drop p ys) none, append-nil, e, g, map-append)

@@ -2,23 +2,15 @@
 -- Assumes nothing.
 use Prim.Native.Nat.{ℕ, _+_, _≤_, _<_}
 use mathlib.Core.Path.{_≡_}
-use mathlib.Core.List.{List, [], _∷_}
+use mathlib.Core.List.{List}
 use mathlib.Core.Bool.{Bool, cond, _&&_}
 use lib.ListN.{length, getD}
 use lib.Dec.{leb, eqb}
 use Rattle.channel.specs.Sheet.{Terminal, Sheet}
 use Rattle.channel.specs.Density.{Pin}
 use Rattle.channel.specs.Spans.{leftmost, rightmost, spans, sumLast}
-use Rattle.terminal.specs.declared.Record.{Record}
-use Rattle.sheet.specs.declared.Entry.{Entry}
-use Rattle.sheet.specs.declared.Entry.the-variants.{Terminal as Found, Nothing}
 use Rattle.sheet.specs.Parts.{terminalsIn}
-use Rattle.measure.specs.declared.count.Span.{Span}
-
--- an entry's record; all 0 where there is none
-abbrev pub recordOr : Entry → Record
-recordOr (Found r) = r
-recordOr Nothing = record { net = 0; least = 0; greatest = 0; allowed = 0 }
+use Rattle.spans.specs.Spans.{pinsOf}
 
 -- the sheet of a channel's length and two sides
 abbrev pub sheetWith : ℕ → List Terminal → List Terminal → Sheet
@@ -34,16 +26,6 @@ pub record Laid (top bottom columns : List ℕ) (p l : ℕ) : Type 0 where
 -- of two values, that of a side: 0 is the top
 abbrev pub ofSide {ℓ} : {A : Type ℓ} → A → A → ℕ → A
 ofSide top bottom side = cond (eqb side 0) top bottom
-
--- the pins of a list of nets and their columns
-abbrev pub pinsOf : List ℕ → List ℕ → List Pin
-pinsOf [] cs = []
-pinsOf (n ∷ ns) [] = []
-pinsOf (n ∷ ns) (c ∷ cs) = record { net = n; column = c } ∷ pinsOf ns cs
-
--- how far net n reaches
-abbrev pub spanOf : ℕ → List Pin → Span
-spanOf n ps = record { left = leftmost n ps; right = rightmost n ps }
 
 -- whether net n crosses column c, by its leftmost and rightmost pins
 abbrev pub netSpans : List Pin → ℕ → ℕ → Bool

@@ -1,21 +1,14 @@
 // The density of a list: each net is counted once in the columns that it crosses.
-use crate::rules::terminal_at;
+use spans::all_nets;
+use spans::occurs;
+use spans::span_of;
 ghost use mathlib.Core.Path.{_≡_};
-ghost use mathlib.Core.Bool.{cond};
-ghost use mathlib.Core.List.{_++_};
-ghost use Prim.Native.Nat.{ℕ, _+_, _≤_, _<_, min, max};
-ghost use lib.ListN.{length, getD, drop, replicate};
-ghost use lib.Dec.{eqb};
-ghost use Rattle.channel.specs.Density.{any, maximumTo, density};
-ghost use Rattle.channel.specs.Cut.{nets as netsOf};
+ghost use Prim.Native.Nat.{ℕ, _≤_, _<_};
+ghost use lib.ListN.{length, getD, replicate};
+ghost use Rattle.channel.specs.Density.{maximumTo, density};
 ghost use Rattle.sheet.specs.Parts.{terminalsIn};
-ghost use Rattle.measure.specs.Inner.{sheetWith, Laid, pinsOf, spanOf, within, netSpans, Added, Small, countedAt};
-
-// The columns of a net's leftmost and rightmost pins.
-pub struct Span {
-    pub left: u8,
-    pub right: u8,
-}
+ghost use Rattle.spans.specs.Spans.{pinsOf};
+ghost use Rattle.measure.specs.Inner.{sheetWith, Laid, within, netSpans, Added, Small, countedAt};
 
 // The density of a list, from the two sections, the top terminals p and the channel's length.
 pub fn list_density(top: &[u8], bottom: &[u8], columns: &[u8], p: usize, l: usize) -> u32
@@ -36,28 +29,6 @@ fn wide(x: u16) -> u32
     x as u32
 }
 
-// The nets of all terminals, top then bottom.
-fn all_nets(top: &[u8], bottom: &[u8], p: usize, nets: &mut [u16])
-    requires { ⌜ (p ≡ length (terminalsIn (now top))) × (length (now nets) ≡ p + length (terminalsIn (now bottom))) ⌝ }
-    ensures { λ r. ⌜ now (nets .exit) ≡ netsOf (terminalsIn (now (top .entry)) ++ terminalsIn (now (bottom .entry))) ⌝ }
-{
-    fill_nets(top, &mut nets[..p]);
-    fill_nets(bottom, &mut nets[p..]);
-}
-
-// The nets of a section, in order.
-fn fill_nets(part: &[u8], nets: &mut [u16])
-    requires { ⌜ length (now nets) ≡ length (terminalsIn (now part)) ⌝ }
-    ensures { λ r. ⌜ now (nets .exit) ≡ netsOf (terminalsIn (now (part .entry))) ⌝ }
-{
-    let mut i = 0;
-    while i < nets.len() {
-        let r = terminal_at(part, i + 1);
-        nets[i] = r.net;
-        i += 1;
-    }
-}
-
 // Counts each net once, where it occurs last.
 fn count_nets(nets: &[u16], columns: &[u8], counts: &mut [u16])
     requires { ⌜ (length (now nets) ≡ length (now columns)) × (length (now nets) ≤ 128) × (now counts ≡ replicate 256 0) ⌝ }
@@ -72,20 +43,6 @@ fn count_nets(nets: &[u16], columns: &[u8], counts: &mut [u16])
     }
 }
 
-// Whether a net occurs from a place on.
-fn occurs(net: u16, nets: &[u16], from: usize) -> bool
-    ensures { λ r. ⌜ r ≡ any (eqb net) (drop from (now (nets .entry))) ⌝ }
-{
-    let mut i = from;
-    while i < nets.len() {
-        if net == nets[i] {
-            return true;
-        }
-        i += 1;
-    }
-    false
-}
-
 // Adds one net to the columns that it crosses: from its leftmost to its rightmost pin, if they differ.
 fn count_net(net: u16, nets: &[u16], columns: &[u8], counts: &mut [u16])
     requires { ⌜ (length (now nets) ≡ length (now columns)) × (length (now counts) ≡ 256) × Small (now counts) ⌝ }
@@ -95,42 +52,6 @@ fn count_net(net: u16, nets: &[u16], columns: &[u8], counts: &mut [u16])
     if span.left < span.right {
         add_span(counts, span.left as usize, span.right as usize);
     }
-}
-
-// How far a net reaches. The loop has no branch, so that the compiler can take many pins at a time.
-fn span_of(net: u16, nets: &[u16], columns: &[u8]) -> Span
-    requires { ⌜ length (now nets) ≡ length (now columns) ⌝ }
-    ensures { λ r. ⌜ r ≡ spanOf net (pinsOf (now (nets .entry)) (now (columns .entry))) ⌝ }
-{
-    let mut left: u8 = 255;
-    let mut right: u8 = 0;
-    let mut i = 0;
-    while i < nets.len() {
-        let own = nets[i] == net;
-        // a pin of another net moves neither end
-        left = smaller(left, pick(own, columns[i], 255));
-        right = larger(right, pick(own, columns[i], 0));
-        i += 1;
-    }
-    Span { left, right }
-}
-
-fn pick(yes: bool, a: u8, b: u8) -> u8
-    ensures { λ r. ⌜ r ≡ cond yes a b ⌝ }
-{
-    if yes { a } else { b }
-}
-
-fn smaller(a: u8, b: u8) -> u8
-    ensures { λ r. ⌜ r ≡ min a b ⌝ }
-{
-    if a < b { a } else { b }
-}
-
-fn larger(a: u8, b: u8) -> u8
-    ensures { λ r. ⌜ r ≡ max a b ⌝ }
-{
-    if a < b { b } else { a }
 }
 
 // Adds 1 to the counts of the columns `from` to `to`.

@@ -1,28 +1,11 @@
 // What 13 and 14 ask of a list as long as the terminals.
-use sheet::Entry;
-use terminal::Record;
+use spans::terminal_at;
 ghost use mathlib.Core.Path.{_≡_};
 ghost use mathlib.Core.Bool.{not, _&&_};
 ghost use lib.ListN.{length};
-ghost use Rattle.sheet.specs.Parts.{terminalsIn, entryIn};
+ghost use Rattle.sheet.specs.Parts.{terminalsIn};
 ghost use Rattle.measure.specs.Answer.{sideAllowed, sideKept};
-ghost use Rattle.measure.specs.Inner.{recordOr, ofSide};
-
-// The record at a place, from 1, of a section; all 0 where there is none.
-pub fn terminal_at(part: &[u8], place: usize) -> Record
-    ensures { λ r. ⌜ r ≡ recordOr (entryIn (now (part .entry)) place) ⌝ }
-{
-    let entry = sheet::record_in(part, place);
-    match entry {
-        Entry::Terminal(r) => r,
-        Entry::Nothing => Record {
-            net: 0,
-            least: 0,
-            greatest: 0,
-            allowed: 0,
-        },
-    }
-}
+ghost use Rattle.measure.specs.Inner.{ofSide};
 
 // 13 of one side: whether each column is in its terminal's set.
 pub fn all_allowed(part: &[u8], columns: &[u8]) -> bool

@@ -9,12 +9,13 @@ use native.Mathlib.Omega.{arith}
 use native.Mathlib.Nat.{le-refl}
 use lib.Dec.{leb, ltb, leb·zero}
 use borrow.Author.Tests.{ltb-true, ltb-false}
+use Rattle.channel.specs.Density.{mostDensity}
 use Rattle.bits.specs.Bits.{bitOf, inWord}
 use Rattle.bits.proofs.Laws.{some-cong, some-none, word-cong, word-none, bit-full}
 use Rattle.table.specs.Entry.{cell}
 use Rattle.table.specs.Room.{Filled, heldAt, meeting}
-use Rattle.table.specs.LowerBound.{lowerBound}
-use Rattle.table.proofs.LowerBound.{cell-none}
+use Rattle.bound.specs.LowerBound.{lowerBound}
+use Rattle.bound.proofs.LowerBound.{cell-none}
 use Rattle.pass.specs.declared.Plan.{Plan}
 use Rattle.pass.specs.Pass.{placeable, Rising, Least, tableEnd}
 use Rattle.walk.specs.Walk.{ones}
@@ -57,24 +58,24 @@ fails-below f rises d e l fails = by-test (f d) refl
 -- the bounds of the bisection: f holds of high, and of nothing below low
 pub record Between (f : ℕ → Bool) (low high : ℕ) : Type 0 where
   pub order : low ≤ high
-  pub top : high ≤ 128
+  pub top : high ≤ mostDensity
   pub holds : f high ≡ true
   pub below : (e : ℕ) → e < low → f e ≡ false
 
--- f holds of 128 and not of `failed`
+-- f holds of mostDensity and not of `failed`
 pub between-start :
-    (f : ℕ → Bool) → Rising f → (failed : ℕ) → f failed ≡ false → f 128 ≡ true → Between f (failed + 1) 128
+    (f : ℕ → Bool) → Rising f → (failed : ℕ) → f failed ≡ false → f mostDensity ≡ true → Between f (failed + 1) mostDensity
 between-start f rises failed fails h =
     record {
-      order = by-test (ltb failed 128) refl;
-      top = le-refl 128;
+      order = by-test (ltb failed mostDensity) refl;
+      top = le-refl mostDensity;
       holds = h;
       below = λ e l. fails-below f rises e failed (omega arith) fails;
     }
   where
-    by-test : (t : Bool) → ltb failed 128 ≡ t → failed + 1 ≤ 128
-    by-test true e = omega (arith, ltb-true failed 128 e)
-    by-test false e = absurd (true≢false (sym (rises 128 failed (ltb-false failed 128 e) h) ∙ fails))
+    by-test : (t : Bool) → ltb failed mostDensity ≡ t → failed + 1 ≤ mostDensity
+    by-test true e = omega (arith, ltb-true failed mostDensity e)
+    by-test false e = absurd (true≢false (sym (rises mostDensity failed (ltb-false failed mostDensity e) h) ∙ fails))
 
 -- one step: the middle becomes the upper bound where f holds of it, else what is above it the lower
 pub between-more :

@@ -6,6 +6,7 @@ use mathlib.Core.List.{List}
 use mathlib.Core.Bool.{Bool, true, false, _&&_}
 use lib.ListN.{length, drop}
 use lib.Dec.{ltb}
+use Rattle.channel.specs.Density.{mostDensity}
 use Rattle.bits.specs.Bits.{some, inWord}
 use Rattle.table.specs.Entry.{cell}
 use Rattle.table.specs.Room.{Sides, SameGaps, Filled}
@@ -49,7 +50,7 @@ pub record Tried (rules loads : List ℕ) (n : Plan) (bound : ℕ) (old new : Li
 -- after the passes: r is the least bound, and all but the table's rows is as it was
 pub record Bounded (rules loads : List ℕ) (n : Plan) (old new : List ℕ) (r : ℕ) : Type 0 where
   pub least : Least (placeable rules loads n) r
-  pub small : r ≤ 128
+  pub small : r ≤ mostDensity
   pub kept : length new ≡ length old
   pub behind : drop (tableEnd n) new ≡ drop (tableEnd n) old
   pub gaps : SameGaps (n .grid) old new
@@ -60,12 +61,12 @@ Came rules loads n new columns columns' (outcome.Least d) =
     Least (placeable rules loads n) d
     × (columns'
     ≡ walked new rules (n .grid) (n .p) (n .q) (n .l) (record { c = n .l; i = n .p; j = n .q; top = 0; bottom = 0 }) columns)
-Came rules loads n new columns columns' outcome.Nothing = (placeable rules loads n 128 ≡ false) × (columns' ≡ columns)
+Came rules loads n new columns columns' outcome.Nothing = (placeable rules loads n mostDensity ≡ false) × (columns' ≡ columns)
 
--- the bound of the last pass: the least one, or 128, which no load is above
+-- the bound of the last pass: the least one, or the most that a density can be
 abbrev pub lastBound : Outcome → ℕ
 lastBound (outcome.Least d) = d
-lastBound outcome.Nothing = 128
+lastBound outcome.Nothing = mostDensity
 
 -- and the table of the last pass
 pub record Placed (rules loads : List ℕ) (n : Plan) (old new columns columns' : List ℕ) (r : Outcome) : Type 0 where

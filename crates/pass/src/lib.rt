@@ -1,15 +1,19 @@
 // Passes over the table: whether all pins can be placed under a bound, and the least such bound.
 use bits::below;
+use bound::lower_bound;
 use table::Grid;
 use table::fill;
-use table::lower_bound;
 use table::meets;
 use walk::walk;
 ghost use Prim.Native.Nat.{_+_, _*_, _≤_, _<_, min};
 ghost use mathlib.Core.Path.{_≡_};
 ghost use mathlib.Core.Bool.{true, false, cond};
 ghost use lib.ListN.{length};
+ghost use Rattle.channel.specs.Density.{mostDensity};
 ghost use Rattle.pass.specs.Pass.{Given, placeable, Rising, Tried, Bounded, Placed};
+
+// No density is above this.
+const MOST: u8 = 128;
 
 // What all passes go by: the table's measures, the numbers of pins and the length of the channel.
 pub struct Plan {
@@ -73,14 +77,14 @@ fn farther(ahead: u8) -> u8
     if ahead < 64 { 2 * ahead + 1 } else { 127 }
 }
 
-// The least bound under which all pins can be placed, where 128 is such a bound and `failed` is none. It is most often close above
+// The least bound under which all pins can be placed, where `MOST` is such a bound and `failed` is none. It is most often close above
 // `failed`, so the passes look there first.
 fn least(work: &mut [u16], rules: &[u64], loads: &[u8], plan: Plan, failed: u8) -> u8
-    requires { ⌜ Given (now work) (now rules) (now loads) plan × (placeable (now rules) (now loads) plan failed ≡ false) × (placeable (now rules) (now loads) plan 128 ≡ true) × Rising (placeable (now rules) (now loads) plan) ⌝ }
+    requires { ⌜ Given (now work) (now rules) (now loads) plan × (placeable (now rules) (now loads) plan failed ≡ false) × (placeable (now rules) (now loads) plan mostDensity ≡ true) × Rising (placeable (now rules) (now loads) plan) ⌝ }
     ensures { λ r. ⌜ Bounded (now (rules .entry)) (now (loads .entry)) plan (now (work .entry)) (now (work .exit)) r ⌝ }
 {
     let mut low = failed + 1;
-    let mut high: u8 = 128;
+    let mut high: u8 = MOST;
     let mut ahead: u8 = 0;
     while low < high {
         let bound = next_bound(low, high, ahead);
@@ -104,7 +108,7 @@ fn place_above(
     requires { ⌜ Given (now work) (now rules) (now loads) plan × (plan .p + plan .q ≤ length (now columns)) × (placeable (now rules) (now loads) plan failed ≡ false) × Rising (placeable (now rules) (now loads) plan) ⌝ }
     ensures { λ r. ⌜ Placed (now (rules .entry)) (now (loads .entry)) plan (now (work .entry)) (now (work .exit)) (now (columns .entry)) (now (columns .exit)) r ⌝ }
 {
-    if try_bound(work, rules, loads, plan, 128) {
+    if try_bound(work, rules, loads, plan, MOST) {
         let bound = least(work, rules, loads, plan, failed);
         fill(work, rules, loads, plan.grid, bound, plan.p);
         walk(work, rules, plan.grid, plan.p, plan.q, plan.l, columns);

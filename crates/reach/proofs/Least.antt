@@ -11,7 +11,7 @@ use lib.Dec.{leb, ltb, eqb}
 use borrow.Author.Tests.{leb-true, leb-false, ltb-true, eqb-true}
 use Rattle.channel.specs.Sheet.{Terminal, Sheet, Sound}
 use Rattle.channel.specs.Assignment.{assignment?}
-use Rattle.channel.specs.Density.{any, weightOf, distinct, netsOf, density}
+use Rattle.channel.specs.Density.{any, weightOf, distinct, netsOf, density, mostDensity}
 use Rattle.channel.specs.Word.{Letter, rank, hasTop, hasBottom, columnsOf, word, noLater}
 use Rattle.channel.specs.Cut.{count, load, occupied, wordLoad}
 use Rattle.channel.specs.Best.{Found, best, IsBest, Answers}
@@ -152,12 +152,12 @@ module _ (s : Sheet) where
       go true h k = omega arith
       go false h k = omega arith
 
--- where not even 128 is enough there is no assignment: a sheet has at most 128 terminals
-pub search-none : (s : Sheet) → Sound s → feasible s 128 ≡ false → best s ≡ none
+-- where not even the most that a density can be is enough there is no assignment
+pub search-none : (s : Sheet) → Sound s → feasible s mostDensity ≡ false → best s ≡ none
 search-none s sound f = none-exactly s sound .1 (λ es. refuse es (assignment? s es) refl)
   where
     refuse : (es : List ℕ) (t : Bool) → assignment? s es ≡ t → t ≡ false
     refuse es false q = refl
     refuse es true q =
-        let enough : wordLoad s (word s es) ≤ 128 = omega (arith, wordLoad-nets s (word s es), nets-length s, sound .counts) in
-        absurd (true≢false (sym (whole-feasible s 128 (word s es) (word-whole s sound es q 128 enough)) ∙ f))
+        let enough : wordLoad s (word s es) ≤ mostDensity = omega (arith, wordLoad-nets s (word s es), nets-length s, sound .counts) in
+        absurd (true≢false (sym (whole-feasible s mostDensity (word s es) (word-whole s sound es q mostDensity enough)) ∙ f))

@@ -11,6 +11,7 @@ use lib.ListN.{length, drop, replicate, length-append, length-replicate, length-
 use lib.Dec.{eqb}
 use borrow.Author.Tests.{eqb-false}
 use Rattle.channel.specs.Sheet.{Sheet, Sound}
+use Rattle.channel.specs.Density.{mostDensity}
 use Rattle.channel.specs.Best.{best}
 use Rattle.channel.specs.Best.Found.{none, found}
 use Rattle.channel.specs.Word.{columnsOf}
@@ -94,12 +95,12 @@ plan-lies work rules l p q h g hp hq e room =
 
 -- no assignment where a side has more pins than columns
 pub crowded : (s : Sheet) → Sound s → (s .columns < length (s .top)) ⊎ (s .columns < length (s .bottom)) → best s ≡ none
-crowded s sound h = search-none s sound (by-test (feasible s 128) refl)
+crowded s sound h = search-none s sound (by-test (feasible s mostDensity) refl)
   where
-    by-test : (t : Bool) → feasible s 128 ≡ t → t ≡ false
+    by-test : (t : Bool) → feasible s mostDensity ≡ t → t ≡ false
     by-test true e =
-        let (u, v, hu, hv, r) = feasible-some s 128 e in
-        let (a, b) = reach-held s 128 (length (s .top)) (length (s .bottom)) u v r in
+        let (u, v, hu, hv, r) = feasible-some s mostDensity e in
+        let (a, b) = reach-held s mostDensity (length (s .top)) (length (s .bottom)) u v r in
         absurd (⊎-elim (λ x. omega (arith, a .room)) (λ x. omega (arith, b .room)) h)
     by-test false e = refl
 
@@ -166,7 +167,7 @@ came-best s rules loads n ready old new columns columns' room (outcome.Least d) 
     )
 came-best s rules loads n ready old new columns columns' room outcome.Nothing placed =
     let (never, same) = placed .came in
-    let e : best s ≡ none = search-none s (ready .sound) (sym (placeable-feasible s rules loads n ready 128) ∙ never) in
+    let e : best s ≡ none = search-none s (ready .sound) (sym (placeable-feasible s rules loads n ready mostDensity) ∙ never) in
     (rw e, rw e same)
 
 module _ (tops bottoms : List ℕ) (n : Shape) (columns work : List ℕ)

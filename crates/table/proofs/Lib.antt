@@ -1,4 +1,3 @@
 pub mod Unions
 pub mod Parts
 pub mod Planes
-pub mod LowerBound

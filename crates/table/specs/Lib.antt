@@ -1,3 +1,2 @@
 pub mod Entry
-pub mod LowerBound
 pub mod Room

@@ -2,7 +2,7 @@
 -- Assumes nothing.
 use borrow.Author.Needs.{needs}
 use Rattle.measure.proofs.count.count_net.Statement.{statement}
-use Rattle.measure.specs.Inner.{pinsOf}
+use Rattle.spans.specs.Spans.{pinsOf}
 use Rattle.measure.proofs.Sums.{counted, uncounted}
 use Rattle.measure.proofs.count.count_net.Tie as tie
 

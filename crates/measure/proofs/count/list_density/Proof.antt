@@ -11,7 +11,7 @@ use lib.Seq.{length-take-le, take-at}
 use Rattle.channel.specs.Density.{maximumTo}
 use Rattle.sheet.specs.Parts.{terminalsIn}
 use Rattle.measure.specs.Inner.{countedAt}
-use Rattle.measure.proofs.Sums.{length-nets}
+use Rattle.spans.proofs.Nets.{length-nets}
 use Rattle.measure.proofs.Measures.{bytes-below, density-counted}
 use Rattle.measure.proofs.count.list_density.Tie as tie
 

@@ -1,11 +1,11 @@
--- `table::lowest` meets its contract: at each return the tests that led there say which pins there are.
+-- `bound::lowest` meets its contract: at each return the tests that led there say which pins there are.
 -- Assumes nothing.
 use mathlib.Core.Path.{_∙_, ap, ap₂}
 use Prim.Native.Nat.{min, max}
 use borrow.Author.Needs.{needs}
-use Rattle.table.proofs.LowerBound.{lowest-none, lowest-bottoms, lowest-tops, lowest-both}
-use Rattle.table.proofs.bound.lowest.Statement.{statement}
-use Rattle.table.proofs.bound.lowest.Tie as tie
+use Rattle.bound.proofs.LowerBound.{lowest-none, lowest-bottoms, lowest-tops, lowest-both}
+use Rattle.bound.proofs.lowest.Statement.{statement}
+use Rattle.bound.proofs.lowest.Tie as tie
 
 returns : tie.Need-returns
 returns c =

@@ -15,9 +15,9 @@ use Rattle.bits.specs.Bits.{bitOf, some}
 use Rattle.bits.proofs.Laws.{some-none}
 use Rattle.arrays.specs.Rules.{allowedAt, rangeAt}
 use Rattle.arrays.specs.Loads.{loadAt}
 use Rattle.table.specs.Entry.{topPart, bottomPart, bothPart, entry, alone, bottomsOnly, withTops, cell}
 use Rattle.table.proofs.Parts.{pair-heavy}
-use Rattle.table.specs.LowerBound.{topLast, bottomLast, bothLast, lowest, bottomsLowest, topsLowest, lowerBound}
+use Rattle.bound.specs.LowerBound.{topLast, bottomLast, bothLast, lowest, bottomsLowest, topsLowest, lowerBound}
 
 one-less : (n : ℕ) → suc n - 1 ≡ n
 one-less n = omega arith

@@ -5,7 +5,7 @@ ghost use mathlib.Core.Path.{_≡_};
 ghost use lib.ListN.{length, getD};
 ghost use Rattle.arrays.specs.Rules.{pins};
 ghost use Rattle.arrays.specs.Loads.{loadBytes};
-ghost use Rattle.table.specs.LowerBound.{lowest as lowestOf, lowerBound};
+ghost use Rattle.bound.specs.LowerBound.{lowest as lowestOf, lowerBound};
 
 fn smaller(a: u8, b: u8) -> u8
     ensures { λ r. ⌜ r ≡ min a b ⌝ }

@@ -1,13 +1,13 @@
--- `measure::all_nets` meets its contract: its first p places hold the top's nets, and the others the bottom's.
+-- `spans::all_nets` meets its contract: its first p places hold the top's nets, and the others the bottom's.
 -- Assumes nothing.
 use borrow.Author.Needs.{needs}
-use Rattle.measure.proofs.count.all_nets.Statement.{statement}
+use Rattle.spans.proofs.all_nets.Statement.{statement}
 use mathlib.Core.Path.{sym, _∙_}
 use native.Mathlib.Omega.{arith}
 use lib.Seq.{length-take-le}
 use Rattle.sheet.specs.Parts.{terminalsIn}
-use Rattle.measure.proofs.Sums.{nets-both}
-use Rattle.measure.proofs.count.all_nets.Tie as tie
+use Rattle.spans.proofs.Nets.{nets-both}
+use Rattle.spans.proofs.all_nets.Tie as tie
 
 slice-aggregate-fill-nets : tie.Need-slice-aggregate-fill-nets
 slice-aggregate-fill-nets c = sym (length-take-le _ _ (omega arith))

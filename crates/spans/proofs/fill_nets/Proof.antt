@@ -1,6 +1,6 @@
--- `measure::fill_nets` meets its contract. The loop's invariant: the nets passed are stored. The measure is how many are left.
+-- `spans::fill_nets` meets its contract. The loop's invariant: the nets passed are stored. The measure is how many are left.
 -- Assumes nothing.
-use Rattle.measure.proofs.count.fill_nets.Statement.{statement}
+use Rattle.spans.proofs.fill_nets.Statement.{statement}
 use Prim.Native.Nat.{_-_}
 use mathlib.Core.Path.{_≡_, refl}
 use native.Mathlib.Omega.{arith}
@@ -8,8 +8,8 @@ use borrow.Author.Needs.{needs}
 use lib.ListN.{length, take, length-set}
 use Rattle.channel.specs.Cut.{nets as netsOf}
 use Rattle.sheet.specs.Parts.{terminalsIn}
-use Rattle.measure.proofs.Sums.{nets-more, nets-all}
-use Rattle.measure.proofs.count.fill_nets.Tie as tie
+use Rattle.spans.proofs.Nets.{nets-more, nets-all}
+use Rattle.spans.proofs.fill_nets.Tie as tie
 
 abbrev Inv-loop : tie.InvT-loop
 Inv-loop part nets₀ i₀ nets i = (length nets ≡ length nets₀) × (take i nets ≡ take i (netsOf (terminalsIn part)))

@@ -1,13 +1,13 @@
--- `table::lower_bound` meets its contract. The loop's invariant: the row is that of one top pin less than i. The measure is how many
+-- `bound::lower_bound` meets its contract. The loop's invariant: the row is that of one top pin less than i. The measure is how many
 -- rows are left.
 -- Assumes nothing.
 use Prim.Native.Nat.{ℕ, _+_, _-_, _≤_, _<_}
 use mathlib.Core.Path.{_≡_, refl, sym, _∙_, ap}
 use native.Mathlib.Omega.{arith}
 use lib.ListN.{length, getD}
-use Rattle.table.specs.LowerBound.{lowerBound}
-use Rattle.table.proofs.bound.lower_bound.Statement.{statement}
-use Rattle.table.proofs.bound.lower_bound.Tie as tie
+use Rattle.bound.specs.LowerBound.{lowerBound}
+use Rattle.bound.proofs.lower_bound.Statement.{statement}
+use Rattle.bound.proofs.lower_bound.Tie as tie
 
 abbrev Inv-loop : tie.InvT-loop
 Inv-loop loads p q row₀ i₀ row i =

@@ -1,10 +1,10 @@
--- `measure::terminal_at` meets its contract: the record of the entry, if there is one.
+-- `spans::terminal_at` meets its contract: the record of the entry, if there is one.
 -- Assumes nothing.
 use mathlib.Core.Path.{sym, _∙_, ap}
-use Rattle.measure.specs.Inner.{recordOr}
+use Rattle.spans.specs.Spans.{recordOr}
 use borrow.Author.Needs.{needs}
-use Rattle.measure.proofs.rules.terminal_at.Statement.{statement}
-use Rattle.measure.proofs.rules.terminal_at.Tie as tie
+use Rattle.spans.proofs.terminal_at.Statement.{statement}
+use Rattle.spans.proofs.terminal_at.Tie as tie
 
 returns : tie.Need-returns
 returns c = ap recordOr (sym (c .before .entry .given .1) ∙ c .before .before .before .record-in .ensures)

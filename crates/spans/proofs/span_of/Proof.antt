@@ -1,4 +1,4 @@
--- `measure::span_of` meets its contract. The loop's invariant: each end is the one so far, moved on by the pins that are left.
+-- `spans::span_of` meets its contract. The loop's invariant: each end is the one so far, moved on by the pins that are left.
 -- The measure is how many they are.
 -- Assumes nothing.
 use Prim.Native.Nat.{ℕ, _+_, _-_, _≤_, min, max}
@@ -11,10 +11,10 @@ use lib.ListN.{length, drop, getD}
 use lib.Dec.{eqb}
 use Rattle.channel.specs.Density.{Pin}
 use Rattle.channel.specs.Spans.{endFrom, leftmost, rightmost}
-use Rattle.measure.specs.Inner.{pinsOf}
-use Rattle.measure.proofs.Sums.{end-more, end-past}
-use Rattle.measure.proofs.count.span_of.Statement.{statement}
-use Rattle.measure.proofs.count.span_of.Tie as tie
+use Rattle.spans.specs.Spans.{pinsOf}
+use Rattle.spans.proofs.Nets.{end-more, end-past}
+use Rattle.spans.proofs.span_of.Statement.{statement}
+use Rattle.spans.proofs.span_of.Tie as tie
 
 abbrev Inv-loop : tie.InvT-loop
 Inv-loop net nets columns left₀ right₀ i₀ left right i = (i ≤ length nets)

@@ -1,12 +1,12 @@
--- `table::next_row` meets its contract. The loop's invariant: the row is of i up to j and as it was from j on, and `before` and
+-- `bound::next_row` meets its contract. The loop's invariant: the row is of i up to j and as it was from j on, and `before` and
 -- `diagonal` hold what stands left of j. The measure is how many are left.
 -- Assumes nothing.
 use Prim.Native.Nat.{_+_, _-_, _≤_}
 use mathlib.Core.Path.{_∙_}
 use native.Mathlib.Omega.{arith}
-use Rattle.table.proofs.LowerBound.{Row, row-none, row-more}
-use Rattle.table.proofs.bound.next_row.Statement.{statement}
-use Rattle.table.proofs.bound.next_row.Tie as tie
+use Rattle.bound.proofs.LowerBound.{Row, row-none, row-more}
+use Rattle.bound.proofs.next_row.Statement.{statement}
+use Rattle.bound.proofs.next_row.Tie as tie
 
 abbrev Inv-loop : tie.InvT-loop
 Inv-loop loads i q row₀ before₀ diagonal₀ j₀ row before diagonal j = (j ≤ q + 1) × Row loads i j row₀ row before diagonal

@@ -1,4 +1,4 @@
--- `measure::occurs` meets its contract. The loop's invariant: the net occurs exactly if it does among the places that are left.
+-- `spans::occurs` meets its contract. The loop's invariant: the net occurs exactly if it does among the places that are left.
 -- The measure is how many they are.
 -- Assumes nothing.
 use Prim.Native.Nat.{_-_}
@@ -8,9 +8,9 @@ use borrow.Author.Tests.{eq-eqb, ne-eqb}
 use lib.ListN.{length, drop, drop-of-length-le}
 use lib.Dec.{eqb}
 use Rattle.channel.specs.Density.{any}
-use Rattle.measure.proofs.Sums.{any-more}
-use Rattle.measure.proofs.count.occurs.Statement.{statement}
-use Rattle.measure.proofs.count.occurs.Tie as tie
+use Rattle.spans.proofs.Nets.{any-more}
+use Rattle.spans.proofs.occurs.Statement.{statement}
+use Rattle.spans.proofs.occurs.Tie as tie
 
 abbrev Inv-loop : tie.InvT-loop
 Inv-loop net nets from i₀ i = any (eqb net) (drop from nets) ≡ any (eqb net) (drop i nets)

@@ -1,0 +1,25 @@
+-- The pins of a list of nets and their columns, and how far a net reaches.
+-- Assumes nothing.
+use Prim.Native.Nat.{ℕ}
+use mathlib.Core.List.{List, [], _∷_}
+use Rattle.channel.specs.Density.{Pin}
+use Rattle.channel.specs.Spans.{leftmost, rightmost}
+use Rattle.terminal.specs.declared.Record.{Record}
+use Rattle.sheet.specs.declared.Entry.{Entry}
+use Rattle.sheet.specs.declared.Entry.the-variants.{Terminal as Found, Nothing}
+use Rattle.spans.specs.declared.Span.{Span}
+
+-- an entry's record; all 0 where there is none
+abbrev pub recordOr : Entry → Record
+recordOr (Found r) = r
+recordOr Nothing = record { net = 0; least = 0; greatest = 0; allowed = 0 }
+
+-- the pins of a list of nets and their columns
+abbrev pub pinsOf : List ℕ → List ℕ → List Pin
+pinsOf [] cs = []
+pinsOf (n ∷ ns) [] = []
+pinsOf (n ∷ ns) (c ∷ cs) = record { net = n; column = c } ∷ pinsOf ns cs
+
+-- how far net n reaches
+abbrev pub spanOf : ℕ → List Pin → Span
+spanOf n ps = record { left = leftmost n ps; right = rightmost n ps }
