@@ -7,14 +7,14 @@ use mathlib.Core.List.{List}
 use mathlib.Core.Bool.{Bool, false, _&&_, and-assoc, and-false}
 use native.Mathlib.Omega.{arith}
 use lib.ListN.{length}
+use Rattle.channel.specs.Below.{anyBelow}
+use Rattle.channel.proofs.Below.{anyBelow-cong, anyBelow-none, anyBelow-and, anyBelow-turn, anyBelow-from-start, anyBelow-nested}
 use Rattle.channel.specs.Sheet.{Terminal}
 use Rattle.channel.specs.Assignment.{allows}
-use Rattle.bits.specs.Bits.{bitOf, some}
-use Rattle.bits.proofs.Laws.{some-cong, some-none}
+use Rattle.bits.specs.Bits.{bitOf}
 use Rattle.arrays.specs.Rules.{rangeAt, allowedAt}
-use Rattle.reach.specs.Reach.{anyBelow, terminalOf, near, stands}
+use Rattle.reach.specs.Reach.{terminalNumber, near, stands}
 use Rattle.rules.specs.Sides.{SideRules}
-use Rattle.agreement.proofs.Below.{any-some, some-and, some-turn, some-from-start, any-nested}
 
 -- Of one side: pin k + 1 stands in column x + (k + 1), and the pin before it, of which `more` says where it can stand, in some column
 -- left of that and in none below k
@@ -22,18 +22,17 @@ pub one-side :
     {side : ℕ} {ts : List Terminal} {rules : List ℕ} → SideRules side ts rules → (k x : ℕ) → k < length ts → x < 64
     → (less more : ℕ → Bool) → ((t : ℕ) → t < k → more t ≡ false) → ((n : ℕ) → n ≤ x → less n ≡ more (n + k))
     → (bitOf (allowedAt rules side (suc k)) x
-    && some (suc x) (λ (n : ℕ). bitOf (rangeAt rules side (suc k)) (x - n) && less n))
+    && anyBelow (suc x) (λ (n : ℕ). bitOf (rangeAt rules side (suc k)) (x - n) && less n))
     ≡ anyBelow (x + suc k) (λ (t : ℕ). stands ts (suc k) t (x + suc k) && more t)
 one-side {side} {ts} {rules} r k x hk hx less more none same =
     ap₂ (λ (a b : Bool). a && b) (r .allowed (suc k) x (omega arith) hk)
-    (some-cong (suc x) _ _ (λ n l. ap₂ (λ (a b : Bool). a && b) (in-reach n (omega arith)) (same n (omega arith)))
-    ∙ sym (some-from-start k x open? (λ t l. ap (λ (b : Bool). near? t && b) (none t l) ∙ and-false (near? t))))
-    ∙ some-and may? (x + suc k) open?
-    ∙ some-cong (x + suc k) _ _ (λ t l. sym (and-assoc may? (near? t) (more t)))
-    ∙ sym (any-some (x + suc k) _)
+    (anyBelow-cong (suc x) _ _ (λ n l. ap₂ (λ (a b : Bool). a && b) (in-reach n (omega arith)) (same n (omega arith)))
+    ∙ sym (anyBelow-from-start k x open? (λ t l. ap (λ (b : Bool). near? t && b) (none t l) ∙ and-false (near? t))))
+    ∙ anyBelow-and may? (x + suc k) open?
+    ∙ anyBelow-cong (x + suc k) _ _ (λ t l. sym (and-assoc may? (near? t) (more t)))
   where
     may? : Bool
-    may? = allows ((terminalOf ts (suc k)) .allowed) (x + suc k)
+    may? = allows ((terminalNumber ts (suc k)) .allowed) (x + suc k)
 
     near? : ℕ → Bool
     near? t = near ts (suc k) t (x + suc k)
@@ -54,23 +53,23 @@ pub both-sides :
     → ((n m : ℕ) → n ≤ x → m ≤ y → less n m ≡ more (n + k) (m + l))
     → (bitOf (allowedAt rules 0 (suc k)) x
     && (bitOf (allowedAt rules 1 (suc l)) y
-    && some (suc y)
+    && anyBelow (suc y)
     (λ (m : ℕ). bitOf (rangeAt rules 1 (suc l)) (y - m)
-    && some (suc x) (λ (n : ℕ). bitOf (rangeAt rules 0 (suc k)) (x - n) && less n m))))
+    && anyBelow (suc x) (λ (n : ℕ). bitOf (rangeAt rules 0 (suc k)) (x - n) && less n m))))
     ≡ anyBelow (x + suc k)
     (λ (t : ℕ). anyBelow (y + suc l)
     (λ (b : ℕ). stands tops (suc k) t (x + suc k) && (stands bottoms (suc l) b (y + suc l) && more t b)))
 both-sides {tops} {bottoms} {rules} rt rb k l x y hk hl hx hy less more none same =
-    some-turn may? (bitOf (allowedAt rules 1 (suc l)) y) (suc y) (λ (m : ℕ). bitOf (rangeAt rules 1 (suc l)) (y - m)) before
+    anyBelow-turn may? (bitOf (allowedAt rules 1 (suc l)) y) (suc y) (λ (m : ℕ). bitOf (rangeAt rules 1 (suc l)) (y - m)) before
     ∙ one-side rb l y hl hy (λ (m : ℕ). may? && before m) after no-bottom
     (λ m h. one-side rt k x hk hx (λ (n : ℕ). less n m) (λ (t : ℕ). more t (m + l)) (no-top (m + l)) (λ n j. same n m j h))
-    ∙ any-nested (x + suc k) (y + suc l) top? (λ (b : ℕ). stands bottoms (suc l) b (y + suc l)) more
+    ∙ anyBelow-nested (x + suc k) (y + suc l) top? (λ (b : ℕ). stands bottoms (suc l) b (y + suc l)) more
   where
     may? : Bool
     may? = bitOf (allowedAt rules 0 (suc k)) x
 
     before : ℕ → Bool
-    before m = some (suc x) (λ (n : ℕ). bitOf (rangeAt rules 0 (suc k)) (x - n) && less n m)
+    before m = anyBelow (suc x) (λ (n : ℕ). bitOf (rangeAt rules 0 (suc k)) (x - n) && less n m)
 
     top? : ℕ → Bool
     top? t = stands tops (suc k) t (x + suc k)
@@ -83,6 +82,5 @@ both-sides {tops} {bottoms} {rules} rt rb k l x y hk hl hx hy less more none sam
 
     no-bottom : (b : ℕ) → b < l → after b ≡ false
     no-bottom b h =
-        any-some (x + suc k) _
-        ∙ some-none (x + suc k) _
+        anyBelow-none (x + suc k) _
         (λ t j. ap (λ (a : Bool). top? t && a) (none t b (λ p q. omega arith)) ∙ and-false (top? t))

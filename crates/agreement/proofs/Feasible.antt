@@ -8,17 +8,17 @@ use native.Mathlib.Omega.{arith}
 use lib.ListN.{length}
 use lib.Dec.{ltb, eqb}
 use borrow.Author.Tests.{ltb-true, lt-ltb, eqb-true, eqb-false}
+use Rattle.channel.specs.Below.{anyBelow}
+use Rattle.channel.proofs.Below.{anyBelow-from, anyBelow-to}
 use Rattle.channel.specs.Sheet.{Sheet}
-use Rattle.bits.specs.Bits.{some, inWord}
-use Rattle.bits.proofs.Laws.{some-from, same-test}
+use Rattle.bits.specs.Bits.{inWord}
+use Rattle.bits.proofs.Laws.{same-test}
 use Rattle.table.specs.Entry.{cell}
-use Rattle.reach.specs.Reach.{anyBelow, reach, feasible}
-use Rattle.reach.proofs.Reaches.{anyBelow-from, anyBelow-some}
+use Rattle.reach.specs.Reach.{reach, feasible}
 use Rattle.reach.proofs.Bounds.{Held, reach-held, feasible-mono}
 use Rattle.pass.specs.declared.Plan.{Plan}
-use Rattle.pass.specs.Pass.{placeable, Rising}
+use Rattle.pass.specs.Pass.{feasibleIn, Rising}
 use Rattle.agreement.specs.Ready.{Ready}
-use Rattle.agreement.proofs.Below.{any-some}
 use Rattle.agreement.proofs.Reached.{cell-reach}
 
 -- A test f of the numbers below n and a test g of the columns up to c, where the number x is the column x + k: some number meets f
@@ -26,18 +26,18 @@ use Rattle.agreement.proofs.Reached.{cell-reach}
 pub same-columns :
     (n k c : ℕ) (f g : ℕ → Bool) → ((x : ℕ) → x < n → x + k ≤ c → f x ≡ g (x + k))
     → ((x : ℕ) → x < n → f x ≡ true → x + k ≤ c) → ((u : ℕ) → u ≤ c → g u ≡ true → (k ≤ u) × (u - k < n))
-    → some n f ≡ anyBelow (suc c) g
+    → anyBelow n f ≡ anyBelow (suc c) g
 same-columns n k c f g agree left room =
-    same-test (some n f) (anyBelow (suc c) g)
+    same-test (anyBelow n f) (anyBelow (suc c) g)
     (λ e.
-    let (x, h, m) = anyBelow-some n f (any-some n f ∙ e) in
+    let (x, h, m) = anyBelow-to n f e in
     let l : x + k ≤ c = left x h m in
     anyBelow-from (suc c) g (x + k) (omega arith) (sym (agree x h l) ∙ m))
     (λ e.
-    let (u, h, m) = anyBelow-some (suc c) g e in
+    let (u, h, m) = anyBelow-to (suc c) g e in
     let (l, r) = room u (omega arith) m in
     let here : u - k + k ≡ u = omega arith in
-    some-from n f (u - k) r (agree (u - k) r (omega arith) ∙ ap g here ∙ m))
+    anyBelow-from n f (u - k) r (agree (u - k) r (omega arith) ∙ ap g here ∙ m))
 
 module _ (s : Sheet) (rules loads : List ℕ) (n : Plan) (ready : Ready s rules loads n) where
   -- there is a row for a column in which the last of i top pins stands, where the top pins behind it have columns too
@@ -80,12 +80,12 @@ module _ (s : Sheet) (rules loads : List ℕ) (n : Plan) (ready : Ready s rules 
         (stands .room, number-there (n .q) v k stands))
 
     -- all pins can be placed as the table says it exactly when they can in the model
-    pub placeable-feasible : placeable rules loads n d ≡ feasible s d
-    unfolding placeable feasible
-    placeable-feasible =
+    pub feasible-in : feasibleIn rules loads n d ≡ feasible s d
+    unfolding feasibleIn feasible
+    feasible-in =
         same-columns (n .grid .rows) (n .p) (n .l) _ (λ (u : ℕ). anyBelow (suc (n .l)) (reach s d (n .p) (n .q) u))
         (λ x k l. numbers-same x k) (λ x k e. left x k (eqb (n .p) 0) refl (ready .rows))
-        (λ u k e. there u k (anyBelow-some (suc (n .l)) _ e))
+        (λ u k e. there u k (anyBelow-to (suc (n .l)) _ e))
         ∙ whole (n .p) (n .q) (n .l) (ready .p) (ready .q) (ready .l)
       where
         -- the plan's numbers are the sheet's
@@ -110,6 +110,6 @@ module _ (s : Sheet) (rules loads : List ℕ) (n : Plan) (ready : Ready s rules 
             (stands .room, row-there (n .p) u (omega arith) stands (omega arith))
 
   -- so a larger bound places no less
-  pub placeable-rising : Rising (placeable rules loads n)
-  placeable-rising d e h f =
-      placeable-feasible e ∙ feasible-mono s d e h (sym (placeable-feasible d) ∙ f)
+  pub feasible-rising : Rising (feasibleIn rules loads n)
+  feasible-rising d e h f =
+      feasible-in e ∙ feasible-mono s d e h (sym (feasible-in d) ∙ f)

@@ -9,22 +9,22 @@ use native.Mathlib.Numerals.{add-one}
 use lib.ListN.{length}
 use lib.Dec.{leb, ltb, eqb}
 use borrow.Author.Tests.{leb-true, le-leb, ltb-true, lt-ltb, eqb-true, eqb-false, eq-eqb}
+use Rattle.channel.specs.Below.{anyBelow}
+use Rattle.channel.proofs.Below.{anyBelow-to, anyBelow-and, anyBelow-turn}
 use Rattle.channel.specs.Sheet.{Terminal, Sheet}
 use Rattle.channel.specs.Word.{Letter, rank, hasTop, hasBottom}
 use Rattle.channel.specs.Word.Letter.{empty, top, bottom}
 use Rattle.bits.specs.Bits.{bitOf, inWord}
 use Rattle.bits.proofs.Laws.{bit-full, word-from, same-test}
 use Rattle.table.specs.Room.{heldAt}
-use Rattle.reach.specs.Reach.{anyBelow, near, reach}
-use Rattle.reach.specs.Greedy.{next, lastAt, smallestOf, placeable, choice}
-use Rattle.reach.proofs.Reaches.{anyBelow-some}
+use Rattle.reach.specs.Reach.{near, reach}
+use Rattle.reach.specs.Greedy.{next, lastAt, smallestOf, letterFits, choice}
 use Rattle.reach.proofs.Bounds.{Held, reach-held}
 use Rattle.pass.specs.declared.Plan.{Plan}
 use Rattle.walk.specs.declared.Mark.{Mark}
 use Rattle.rules.specs.Sides.{SideRules}
-use Rattle.walk.specs.Walk.{stepsTo, standsAt, numberFits, lefts, rowFits, rowMeets, someLeft, someHere, emptyFits, topFits, bottomFits, chosen}
+use Rattle.walk.specs.Walk.{stepsTo, standsAt, numberFits, lefts, rowFits, rowMeets, someLeft, someHere, emptyFits, topFits, bottomFits, choiceIn}
 use Rattle.agreement.specs.Ready.{Ready}
-use Rattle.agreement.proofs.Below.{any-some, some-and, some-turn}
 use Rattle.agreement.proofs.Feasible.{same-columns, row-there, some-row, number-there}
 
 -- One side of a walk that has c columns left: of n pins i are still to be placed, the others have columns behind c, up to l, and
@@ -69,7 +69,7 @@ unfolding inWord
 word-at f k h =
     same-test (inWord (λ (y : ℕ). f y && eqb y k)) (f k)
     (λ e.
-    let (y, l, m) = anyBelow-some 64 _ (any-some 64 (λ (y : ℕ). f y && eqb y k) ∙ e) in
+    let (y, l, m) = anyBelow-to 64 (λ (y : ℕ). f y && eqb y k) e in
     let (holds, same) = and-eq-true-iff (f y) (eqb y k) .0 m in
     rw (eqb-true y k same) at holds)
     (λ e. word-from (λ (y : ℕ). f y && eqb y k) k h (rw (e, eq-eqb k k refl)))
@@ -77,17 +77,16 @@ word-at f k h =
 -- a part of a test that does not depend on the column
 lastAt-and : (h : Bool) (c : ℕ) (a : Bool) (f : ℕ → Bool) → (a && lastAt h c f) ≡ lastAt h c (λ (v : ℕ). a && f v)
 lastAt-and true c a f = refl
-lastAt-and false c a f =
-    ap (λ (t : Bool). a && t) (any-some (suc c) f) ∙ some-and a (suc c) f ∙ sym (any-some (suc c) (λ (v : ℕ). a && f v))
+lastAt-and false c a f = anyBelow-and a (suc c) f
 
 -- the model's test of a letter, with the test of each pin where its column is chosen
-placeable-nested :
+letterFits-nested :
     (s : Sheet) (d c i j x y : ℕ) (a : Letter)
-    → placeable s d c i j x y a
+    → letterFits s d c i j x y a
     ≡ lastAt (hasTop a) c
     (λ (u : ℕ). next (s .top) i u x && lastAt (hasBottom a) c (λ (v : ℕ). next (s .bottom) j v y && reach s d i j u v))
-unfolding placeable
-placeable-nested s d c i j x y a =
+unfolding letterFits
+letterFits-nested s d c i j x y a =
     ap (lastAt (hasTop a) c)
     (fun-ext
     (λ u.
@@ -181,7 +180,7 @@ module _
             someLeft work rules (n .grid) (n .p) mark f ≡ anyBelow (suc c) (λ (u : ℕ). next (s .top) i u x && more u)
         left-same =
             let there : 0 < n .grid .rows = some-row s rules loads n ready in
-            some-and (leb i (suc c - 1)) rows (rowMeets work rules (n .grid) (n .p) mark f)
+            anyBelow-and (leb i (suc c - 1)) rows (rowMeets work rules (n .grid) (n .p) mark f)
             ∙ same-columns rows i c (λ (r : ℕ). leb i (suc c - 1) && rowMeets work rules (n .grid) (n .p) mark f r)
             (λ (u : ℕ). next (s .top) i u x && more u)
             (λ r h k. rw (le-leb i (suc c - 1) (omega arith)) (row-same r (omega arith) (omega arith)))
@@ -222,21 +221,21 @@ module _
 
     bottom-held : (u : ℕ) → someBottom u ≡ true → Held i u
     bottom-held u e =
-        let (v, h, m) = anyBelow-some (suc c) _ e in
+        let (v, h, m) = anyBelow-to (suc c) _ e in
         reach-held s d i j u v (and-eq-true-iff (next (s .bottom) j v y) (reach s d i j u v) .0 m .1) .0
 
     -- the column can be empty
-    empty-same : emptyFits work rules (n .grid) (n .p) (n .q) mark ≡ placeable s d c i j x y empty
+    empty-same : emptyFits work rules (n .grid) (n .p) (n .q) mark ≡ letterFits s d c i j x y empty
     empty-same =
-        left-same (lefts rules (n .q) mark) someBottom numbers-left bottom-held ∙ sym (placeable-nested s d c i j x y empty)
+        left-same (lefts rules (n .q) mark) someBottom numbers-left bottom-held ∙ sym (letterFits-nested s d c i j x y empty)
 
     -- it can hold a top pin alone
-    top-same : topFits work rules (n .grid) (n .p) (n .q) mark ≡ placeable s d c i j x y top
+    top-same : topFits work rules (n .grid) (n .p) (n .q) mark ≡ letterFits s d c i j x y top
     top-same =
-        here-same (lefts rules (n .q) mark) someBottom numbers-left bottom-held ∙ sym (placeable-nested s d c i j x y top)
+        here-same (lefts rules (n .q) mark) someBottom numbers-left bottom-held ∙ sym (letterFits-nested s d c i j x y top)
 
     -- it can hold a bottom pin alone
-    bottom-same : bottomFits work rules (n .grid) (n .p) (n .q) mark ≡ placeable s d c i j x y bottom
+    bottom-same : bottomFits work rules (n .grid) (n .p) (n .q) mark ≡ letterFits s d c i j x y bottom
     bottom-same =
         guarded (ltb 0 j) _ there
         (λ a. guarded (leb j (suc c)) _ there
@@ -247,29 +246,27 @@ module _
         ap₂ (λ (p q : Bool). p && q) (number-next (suc c - j) (omega arith) ∙ ap (λ (v : ℕ). next (s .bottom) j v y) column)
         (left-same (λ (t : ℕ). eqb t (suc c - j)) (λ (u : ℕ). reach s d i j u (suc c)) (λ r h. number-here r h k l)
         (λ u m. reach-held s d i j u (suc c) m .0))
-        ∙ ap (λ (t : Bool). next (s .bottom) j (suc c) y && t) (any-some (suc c) _)
-        ∙ some-turn (next (s .bottom) j (suc c) y) true (suc c) (λ (u : ℕ). next (s .top) i u x) (λ (u : ℕ). reach s d i j u (suc c))
-        ∙ sym (any-some (suc c) _))
+        ∙ anyBelow-turn (next (s .bottom) j (suc c) y) true (suc c) (λ (u : ℕ). next (s .top) i u x) (λ (u : ℕ). reach s d i j u (suc c)))
         (λ m. le-leb j (suc c) (stand m .room)))
         (λ m. lt-ltb 0 j (some-pin j c (stand m)))
-        ∙ sym (placeable-nested s d c i j x y bottom)
+        ∙ sym (letterFits-nested s d c i j x y bottom)
       where
         there : Bool
         there = anyBelow (suc c) (λ (u : ℕ). next (s .top) i u x && (next (s .bottom) j (suc c) y && reach s d i j u (suc c)))
 
         stand : there ≡ true → Held j (suc c)
         stand m =
-            let (u, h, e) = anyBelow-some (suc c) _ m in
+            let (u, h, e) = anyBelow-to (suc c) _ m in
             let pin : (next (s .bottom) j (suc c) y && reach s d i j u (suc c)) ≡ true =
             and-eq-true-iff (next (s .top) i u x) (next (s .bottom) j (suc c) y && reach s d i j u (suc c)) .0 e .1 in
             reach-held s d i j u (suc c) (and-eq-true-iff (next (s .bottom) j (suc c) y) (reach s d i j u (suc c)) .0 pin .1) .1
 
     -- so the letter is the model's
-    pub chosen-choice : chosen work rules (n .grid) (n .p) (n .q) mark ≡ rank (choice s d c i j x y)
-    unfolding chosen choice
-    chosen-choice =
+    pub choice-in : choiceIn work rules (n .grid) (n .p) (n .q) mark ≡ rank (choice s d c i j x y)
+    unfolding choiceIn choice
+    choice-in =
         rw (empty-same, top-same, bottom-same)
-        (ranks (placeable s d c i j x y empty) (placeable s d c i j x y top) (placeable s d c i j x y bottom))
+        (ranks (letterFits s d c i j x y empty) (letterFits s d c i j x y top) (letterFits s d c i j x y bottom))
       where
         ranks : (e t b : Bool) → cond e 0 (cond t 1 (cond b 2 3)) ≡ rank (smallestOf e t b)
         ranks true t b = refl

@@ -1,6 +1,5 @@
-pub mod Below
 pub mod Columns
 pub mod Reached
 pub mod Feasible
 pub mod Letters
-pub mod Traced
+pub mod Walked

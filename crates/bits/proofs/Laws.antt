@@ -12,8 +12,9 @@ use lib.Bits.{bitAnd, bitOr, and-mod, or-mod, and-shr, or-shr}
 use lib.Count.{trailingZeros, under}
 use lib.Pow.{pow-pos, pow-mono, pow-add, shl-shr, shr-shr, field, mod-mod-pow, ones-split, ones-lt, high}
 use borrow.Author.Tests.{leb-true, leb-false, ltb-true, ltb-false, eq-eqb, ne-eqb, eqb-true, eqb-false}
+use Rattle.channel.proofs.Below.{anyBelow-cong, anyBelow-from, anyBelow-none}
 use Rattle.channel.proofs.Sets.{bit-of}
-use Rattle.bits.specs.Bits.{bitOf, some, inWord}
+use Rattle.bits.specs.Bits.{bitOf, inWord}
 
 -- the last bit
 odd : ℕ → Bool
@@ -148,52 +149,18 @@ bit-single k n h = bit-shl 1 k n h ∙ by-test (leb k n) refl
     by-test true e = bit-one (n - k) ∙ difference-zero k n (leb-true k n e)
     by-test false e = let less = leb-false k n e in sym (ne-eqb n k (omega arith))
 
--- what holds below n, and what is reached by steps
-pub some-cong : (n : ℕ) (f g : ℕ → Bool) → ((k : ℕ) → k < n → f k ≡ g k) → some n f ≡ some n g
-some-cong zero f g h = refl
-some-cong (suc n) f g h = ap₂ (λ (a b : Bool). a || b) (h n (omega arith)) (some-cong n f g (λ k l. h k (omega arith)))
-
--- a number below n of which f holds
-pub some-from : (n : ℕ) (f : ℕ → Bool) (k : ℕ) → k < n → f k ≡ true → some n f ≡ true
-some-from (suc n) f k h e = by-test (λ l. some-from n f k l e) (eqb k n) refl
-  where
-    by-test : (k < n → some n f ≡ true) → (b : Bool) → eqb k n ≡ b → (f n || some n f) ≡ true
-    by-test rest true t = rw (ap f (sym (eqb-true k n t)) ∙ e)
-    by-test rest false t = rw (rest (omega (arith, eqb-false k n t))) (or-true (f n))
-
-pub some-to : (n : ℕ) (f : ℕ → Bool) → some n f ≡ true → (k : ℕ) × (k < n) × (f k ≡ true)
-some-to zero f e = absurd (true≢false (sym e))
-some-to (suc n) f e = by-test (some-to n f) (f n) refl e
-  where
-    by-test : (some n f ≡ true → (k : ℕ) × (k < n) × (f k ≡ true)) → (b : Bool) → f n ≡ b → (b || some n f) ≡ true → (k : ℕ) × (k < suc n) × (f k ≡ true)
-    by-test rest true t o = (n, omega arith, t)
-    by-test rest false t o = let (k, l, g) = rest o in (k, omega arith, g)
-
--- nothing below n
-pub some-none : (n : ℕ) (f : ℕ → Bool) → ((k : ℕ) → k < n → f k ≡ false) → some n f ≡ false
-some-none zero f h = refl
-some-none (suc n) f h = rw (h n (omega arith)) (some-none n f (λ k l. h k (omega arith)))
-
--- the same laws of the numbers of a word
+-- what holds of a number below 64, as of a number below any bound
 pub word-none : (f : ℕ → Bool) → ((k : ℕ) → k < 64 → f k ≡ false) → inWord f ≡ false
 unfolding inWord
-word-none f h = some-none 64 f h
+word-none f h = anyBelow-none 64 f h
 
 pub word-from : (f : ℕ → Bool) (k : ℕ) → k < 64 → f k ≡ true → inWord f ≡ true
 unfolding inWord
-word-from f k h e = some-from 64 f k h e
+word-from f k h e = anyBelow-from 64 f k h e
 
 pub word-cong : (f g : ℕ → Bool) → ((k : ℕ) → k < 64 → f k ≡ g k) → inWord f ≡ inWord g
 unfolding inWord
-word-cong f g h = some-cong 64 f g h
-
--- one number more, where the first of two tests holds of it, and where it does not
-module _ (n : ℕ) (a b : ℕ → Bool) where
-  pub some-taken : a n ≡ true → some (n + 1) (λ (m : ℕ). a m && b m) ≡ (b n || some n (λ (m : ℕ). a m && b m))
-  some-taken e = rw (add-one n, e)
-
-  pub some-left : a n ≡ false → some (n + 1) (λ (m : ℕ). a m && b m) ≡ some n (λ (m : ℕ). a m && b m)
-  some-left e = rw (add-one n, e)
+word-cong f g h = anyBelow-cong 64 f g h
 
 -- the numbers below k, as the high bits of a full word shifted down, and those from k on
 pub bit-full : (n : ℕ) → n < 64 → bitOf 18446744073709551615 n ≡ true

@@ -8,11 +8,13 @@ use native.Mathlib.Omega.{arith}
 use lib.Dec.{leb, ltb}
 use lib.Bits.{bitOr}
 use borrow.Author.Tests.{leb-true, leb-false, le-leb, lt-ltb, ltb-true, ltb-false, eq-eqb, ne-eqb}
-use Rattle.bits.specs.Bits.{bitOf, some, stepped, covered}
-use Rattle.bits.proofs.Laws.{bit-or, bit-zero, bit-first, bit-shr, bit-shl, some-from, some-to, some-none, same-test}
+use Rattle.channel.specs.Below.{anyBelow}
+use Rattle.channel.proofs.Below.{anyBelow-from, anyBelow-to, anyBelow-none}
+use Rattle.bits.specs.Bits.{bitOf, stepped, covered}
+use Rattle.bits.proofs.Laws.{bit-or, bit-zero, bit-first, bit-shr, bit-shl, same-test}
 
 -- a test moved up by one, which fails at 0
-some-moved : (n : ℕ) (f g : ℕ → Bool) → g 0 ≡ false → ((k : ℕ) → k < n → g (suc k) ≡ f k) → some (suc n) g ≡ some n f
+some-moved : (n : ℕ) (f g : ℕ → Bool) → g 0 ≡ false → ((k : ℕ) → k < n → g (suc k) ≡ f k) → anyBelow (suc n) g ≡ anyBelow n f
 some-moved zero f g z h = rw z
 some-moved (suc n) f g z h = ap₂ (λ (a b : Bool). a || b) (h n (omega arith)) (some-moved n f g z (λ k l. h k (omega arith)))
 
@@ -42,7 +44,7 @@ pub stepped-none : (w n : ℕ) → stepped w 0 n ≡ false
 unfolding stepped
 stepped-none w n = none (suc n)
   where
-    none : (m : ℕ) → some m (λ (y : ℕ). bitOf 0 (n - y) && bitOf w y) ≡ false
+    none : (m : ℕ) → anyBelow m (λ (y : ℕ). bitOf 0 (n - y) && bitOf w y) ≡ false
     none zero = refl
     none (suc m) = rw (bit-zero (n - m)) (none m)
 
@@ -56,11 +58,11 @@ stepped-open w by low a n h there none all = by-test (leb (low + a) n) refl
     step : ℕ → Bool
     step y = bitOf by (n - y) && bitOf w y
 
-    by-test : (b : Bool) → leb (low + a) n ≡ b → b ≡ some (suc n) step
+    by-test : (b : Bool) → leb (low + a) n ≡ b → b ≡ anyBelow (suc n) step
     by-test true e =
         let le = leb-true (low + a) n e in
-        sym (some-from (suc n) step low (omega arith) (rw (all (n - low) (omega arith), le-leb a (n - low) (omega arith)) (there (omega arith))))
-    by-test false e = sym (some-none (suc n) step (λ y l. short y l (leb a (n - y)) refl))
+        sym (anyBelow-from (suc n) step low (omega arith) (rw (all (n - low) (omega arith), le-leb a (n - low) (omega arith)) (there (omega arith))))
+    by-test false e = sym (anyBelow-none (suc n) step (λ y l. short y l (leb a (n - y)) refl))
       where
         short : (y : ℕ) → y < suc n → (b : Bool) → leb a (n - y) ≡ b → step y ≡ false
         short y l true t =
@@ -80,12 +82,12 @@ module _ (w : ℕ) where
 
   covered-from : (width k y : ℕ) → y ≤ k → k - y < width → bitOf w y ≡ true → covered w width k ≡ true
   unfolding covered
-  covered-from width k y h l e = some-from (suc k) (near width k) y (omega arith) (rw (lt-ltb (k - y) width l) e)
+  covered-from width k y h l e = anyBelow-from (suc k) (near width k) y (omega arith) (rw (lt-ltb (k - y) width l) e)
 
   covered-to : (width k : ℕ) → covered w width k ≡ true → (y : ℕ) × (y ≤ k) × (k - y < width) × (bitOf w y ≡ true)
   unfolding covered
   covered-to width k e =
-      let (y, h, t) = some-to (suc k) (near width k) e in
+      let (y, h, t) = anyBelow-to (suc k) (near width k) e in
       let (l, g) = and-eq-true-iff (ltb (k - y) width) (bitOf w y) .0 t in
       (y, omega arith, ltb-true (k - y) width l, g)
 
@@ -140,17 +142,17 @@ stepped-run w by a end n h run = same-test _ _ there back
     step : ℕ → Bool
     step y = bitOf by (n - y) && bitOf w y
 
-    there : (leb a n && covered w (end - a) (n - a)) ≡ true → some (suc n) step ≡ true
+    there : (leb a n && covered w (end - a) (n - a)) ≡ true → anyBelow (suc n) step ≡ true
     there e =
         let (s, t) = and-eq-true-iff (leb a n) (covered w (end - a) (n - a)) .0 e in
         let le = leb-true a n s in
         let (y, l, m, g) = covered-to w (end - a) (n - a) t in
-        some-from (suc n) step y (omega arith)
+        anyBelow-from (suc n) step y (omega arith)
         (rw (run (n - y) (omega arith), le-leb a (n - y) (omega arith), lt-ltb (n - y) end (omega arith)) g)
 
-    back : some (suc n) step ≡ true → (leb a n && covered w (end - a) (n - a)) ≡ true
+    back : anyBelow (suc n) step ≡ true → (leb a n && covered w (end - a) (n - a)) ≡ true
     back e =
-        let (y, l, t) = some-to (suc n) step e in
+        let (y, l, t) = anyBelow-to (suc n) step e in
         let (s, g) = and-eq-true-iff (bitOf by (n - y)) (bitOf w y) .0 t in
         let (p, q) = and-eq-true-iff (leb a (n - y)) (ltb (n - y) end) .0 (sym (run (n - y) (omega arith)) ∙ s) in
         let le = leb-true a (n - y) p in

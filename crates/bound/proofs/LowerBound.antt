@@ -11,8 +11,9 @@ use lib.ListN.{length, getD, set, length-set}
 use lib.Seq.{getD-set-same, getD-set-other}
 use lib.Dec.{leb, ltb, eqb}
 use borrow.Author.Tests.{ltb-true, ltb-false, lt-leb, le-ltb, eq-eqb, ne-eqb, eqb-true, eqb-false}
-use Rattle.bits.specs.Bits.{bitOf, some}
-use Rattle.bits.proofs.Laws.{some-none}
+use Rattle.channel.specs.Below.{anyBelow}
+use Rattle.channel.proofs.Below.{anyBelow-none}
+use Rattle.bits.specs.Bits.{bitOf}
 use Rattle.arrays.specs.Rules.{allowedAt, rangeAt}
 use Rattle.arrays.specs.Loads.{loadAt}
 use Rattle.table.specs.Entry.{topPart, bottomPart, bothPart, entry, alone, bottomsOnly, withTops, cell}
@@ -76,7 +77,7 @@ module _ (rules loads : List ℕ) (bound : ℕ) where
   alone-none load allowed range plane x y (inl h) = rw (lt-leb load bound h)
   alone-none load allowed range plane x y (inr h) =
       rw
-      (some-none (suc x) (λ (n : ℕ). bitOf range (x - n) && plane n y) (λ n l. rw (h n y) (and-false (bitOf range (x - n)))), and-false (bitOf allowed x))
+      (anyBelow-none (suc x) (λ (n : ℕ). bitOf range (x - n) && plane n y) (λ n l. rw (h n y) (and-false (bitOf range (x - n)))), and-false (bitOf allowed x))
       (and-false (leb load bound))
 
   module _ (i j x y : ℕ) where
@@ -101,10 +102,10 @@ module _ (rules loads : List ℕ) (bound : ℕ) where
     both-none diagonal (inl h) = sym (pair-heavy rules loads bound i j x y diagonal (lt-leb (loadAt loads i j 2) bound h))
     both-none diagonal (inr h) =
         rw (
-          some-none (suc y)
-              (λ (m : ℕ). bitOf (rangeAt rules 1 j) (y - m) && some (suc x) (λ (n : ℕ). bitOf (rangeAt rules 0 i) (x - n) && diagonal n m))
+          anyBelow-none (suc y)
+              (λ (m : ℕ). bitOf (rangeAt rules 1 j) (y - m) && anyBelow (suc x) (λ (n : ℕ). bitOf (rangeAt rules 0 i) (x - n) && diagonal n m))
               (λ m l. rw
-              (some-none (suc x) (λ (n : ℕ). bitOf (rangeAt rules 0 i) (x - n) && diagonal n m) (λ n k. rw (h n m) (and-false (bitOf (rangeAt rules 0 i) (x - n)))))
+              (anyBelow-none (suc x) (λ (n : ℕ). bitOf (rangeAt rules 0 i) (x - n) && diagonal n m) (λ n k. rw (h n m) (and-false (bitOf (rangeAt rules 0 i) (x - n)))))
               (and-false (bitOf (rangeAt rules 1 j) (y - m)))),
           and-false (bitOf (allowedAt rules 1 j) y),
           and-false (bitOf (allowedAt rules 0 i) x),

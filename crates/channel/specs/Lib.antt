@@ -1,3 +1,4 @@
+pub mod Below
 pub mod Sheet
 pub mod Assignment
 pub mod Density

@@ -19,11 +19,18 @@ pub record Terminal : Type 0 where
   pub greatest : ℕ
   pub allowed : ℕ
 
+-- stands behind a side's last terminal: one that may stand nowhere
+abbrev pub noTerminal : Terminal
+noTerminal = record { net = 0; least = 0; greatest = 0; allowed = 0 }
+
 -- a sheet as read: the length L of the channel, and each side's terminals
 pub record Sheet : Type 0 where
   pub columns : ℕ
   pub top : List Terminal
   pub bottom : List Terminal
+
+abbrev pub sheetWith : ℕ → List Terminal → List Terminal → Sheet
+sheetWith l top bottom = record { columns = l; top = top; bottom = bottom }
 
 -- the terminals of one side
 abbrev pub terminals : Sheet → Side → List Terminal

@@ -8,7 +8,7 @@ use native.Mathlib.Omega.{arith}
 use lib.ListN.{length, getD, take, drop, length-drop}
 use lib.Seq.{take-all}
 use borrow.Author.Tests.{eq-eqb, ne-eqb, not-true, not-false}
-use Rattle.channel.specs.Sheet.{Terminal, Sheet}
+use Rattle.channel.specs.Sheet.{Terminal, Sheet, sheetWith}
 use Rattle.channel.specs.Assignment.{topColumns, bottomColumns}
 use Rattle.channel.specs.Density.{Pin, pins, maximumTo, density}
 use Rattle.channel.specs.Cut.{nets}
@@ -19,14 +19,14 @@ use Rattle.soundness.specs.Read.{sheetOf}
 use Rattle.sheet.specs.declared.Layout.{Layout}
 use Rattle.sheet.specs.declared.Opened.the-variants as opened
 use Rattle.sheet.specs.declared.Shape.{Shape}
-use Rattle.sheet.specs.Parts.{openedOf, bytesOf, terminalsIn}
+use Rattle.sheet.specs.Parts.{openedOf, bytesOf, terminalsIn, sheetIn}
 use Rattle.soundness.proofs.Laws.{read-sound}
 use Rattle.sheet.proofs.Laws.{opened-refused, Opens, opens}
 use Rattle.measure.specs.declared.Measured.{Measured}
 use Rattle.measure.specs.declared.Measured.the-variants.{Density, Sheet as Unsound, Count, Allowed, Distance}
 use Rattle.measure.specs.Answer.{sideAllowed, allAllowed, sideKept, distancesKept, unless, listMeasured, sheetMeasured, measuredOf}
 use Rattle.spans.specs.Spans.{pinsOf}
-use Rattle.measure.specs.Inner.{sheetWith, Laid, netSpans, countedAt}
+use Rattle.measure.specs.Inner.{Laid, netSpans, countedAt}
 
 -- the pins of terminals are those of their nets
 pins-nets : (ts : List Terminal) (cs : List ℕ) → pins ts cs ≡ pinsOf (nets ts) cs
@@ -143,11 +143,11 @@ module _ (b cs : List ℕ) (n : Layout) (opening : openedOf b ≡ opened.Sound n
         }
 
     pub list-measured :
-        (m : Measured) → m ≡ listMeasured (sheetWith (n .shape .columns) (terminalsIn top) (terminalsIn bottom)) cs
+        (m : Measured) → m ≡ listMeasured (sheetIn (n .shape .columns) top bottom) cs
         → m ≡ measuredOf b cs
     unfolding sheetMeasured
     list-measured m e =
-        let same : sheetWith (n .shape .columns) (terminalsIn top) (terminalsIn bottom) ≡ sheetOf b
+        let same : sheetIn (n .shape .columns) top bottom ≡ sheetOf b
         = rw (columns-counted, top-terminals, bottom-terminals) in
         e
         ∙ ap (λ (s : Sheet). listMeasured s cs) same

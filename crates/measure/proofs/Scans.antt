@@ -7,14 +7,14 @@ use mathlib.Core.Bool.{Bool, true, false, cond, _&&_}
 use native.Mathlib.Omega.{arith}
 use lib.ListN.{length, getD, drop, drop-of-length-le}
 use lib.Dec.{eqb}
-use Rattle.channel.specs.Sheet.{Terminal}
+use Rattle.channel.specs.Sheet.{Terminal, noTerminal}
 use Rattle.channel.specs.Assignment.{allows, inRange}
 use Rattle.terminal.specs.declared.Record.{Record}
 use Rattle.sheet.specs.Parts.{terminalsIn, entryIn}
 use Rattle.measure.specs.Answer.{sideAllowed, laterKept, sideKept}
 use Rattle.spans.specs.Spans.{recordOr}
-use Rattle.spans.proofs.Nets.{drop-next, noTerminal, record-terminal}
-use Rattle.measure.specs.Inner.{ofSide}
+use Rattle.spans.proofs.Nets.{drop-next, record-terminal}
+use Rattle.measure.specs.Inner.{sideAt}
 
 -- one place of a side, of which r is the record: the rest is said by the places behind it
 module _ (part columns : List ℕ) (same : length columns ≡ length (terminalsIn part)) (i : ℕ) (inside : i < length columns)
@@ -53,12 +53,12 @@ kept-first (t ∷ u ∷ ts) [] = refl
 
 -- 14 of side k, from the two sections and the two sides' columns
 abbrev pub keptAt : List ℕ → List ℕ → List ℕ → List ℕ → ℕ → Bool
-keptAt top bottom tops bottoms k = sideKept (terminalsIn (ofSide top bottom k)) (ofSide tops bottoms k)
+keptAt top bottom tops bottoms k = sideKept (terminalsIn (sideAt top bottom k)) (sideAt tops bottoms k)
 
 -- each side has as many columns as terminals
 pub side-same :
     (top bottom tops bottoms : List ℕ) → length tops ≡ length (terminalsIn top) → length bottoms ≡ length (terminalsIn bottom)
-    → (k : ℕ) → length (ofSide tops bottoms k) ≡ length (terminalsIn (ofSide top bottom k))
+    → (k : ℕ) → length (sideAt tops bottoms k) ≡ length (terminalsIn (sideAt top bottom k))
 side-same top bottom tops bottoms h g k = go (eqb k 0)
   where
     go : (t : Bool) → length (cond t tops bottoms) ≡ length (terminalsIn (cond t top bottom))

@@ -6,15 +6,10 @@ use mathlib.Core.List.{List}
 use mathlib.Core.Bool.{Bool, cond, _&&_}
 use lib.ListN.{length, getD}
 use lib.Dec.{leb, eqb}
-use Rattle.channel.specs.Sheet.{Terminal, Sheet}
 use Rattle.channel.specs.Density.{Pin}
 use Rattle.channel.specs.Spans.{leftmost, rightmost, spans, sumLast}
 use Rattle.sheet.specs.Parts.{terminalsIn}
 use Rattle.spans.specs.Spans.{pinsOf}
-
--- the sheet of a channel's length and two sides
-abbrev pub sheetWith : ℕ → List Terminal → List Terminal → Sheet
-sheetWith l top bottom = record { columns = l; top = top; bottom = bottom }
 
 -- a list that is p+q long beside the two sections of a sound sheet of length l
 pub record Laid (top bottom columns : List ℕ) (p l : ℕ) : Type 0 where
@@ -24,8 +19,8 @@ pub record Laid (top bottom columns : List ℕ) (p l : ℕ) : Type 0 where
   pub short : l ≤ 64
 
 -- of two values, that of a side: 0 is the top
-abbrev pub ofSide {ℓ} : {A : Type ℓ} → A → A → ℕ → A
-ofSide top bottom side = cond (eqb side 0) top bottom
+abbrev pub sideAt {ℓ} : {A : Type ℓ} → A → A → ℕ → A
+sideAt top bottom side = cond (eqb side 0) top bottom
 
 -- whether net n crosses column c, by its leftmost and rightmost pins
 abbrev pub netSpans : List Pin → ℕ → ℕ → Bool

@@ -6,14 +6,14 @@ ghost use mathlib.Core.Path.{_≡_};
 ghost use Prim.Native.Nat.{ℕ, _≤_, _<_};
 ghost use lib.ListN.{length, getD, replicate};
 ghost use Rattle.channel.specs.Density.{maximumTo, density};
-ghost use Rattle.sheet.specs.Parts.{terminalsIn};
+ghost use Rattle.sheet.specs.Parts.{sheetIn};
 ghost use Rattle.spans.specs.Spans.{pinsOf};
-ghost use Rattle.measure.specs.Inner.{sheetWith, Laid, within, netSpans, Added, Small, countedAt};
+ghost use Rattle.measure.specs.Inner.{Laid, within, netSpans, Added, Small, countedAt};
 
 // The density of a list, from the two sections, the top terminals p and the channel's length.
 pub fn list_density(top: &[u8], bottom: &[u8], columns: &[u8], p: usize, l: usize) -> u32
     requires { ⌜ Laid (now top) (now bottom) (now columns) p l ⌝ }
-    ensures { λ r. ⌜ r ≡ density (sheetWith l (terminalsIn (now (top .entry))) (terminalsIn (now (bottom .entry)))) (now (columns .entry)) ⌝ }
+    ensures { λ r. ⌜ r ≡ density (sheetIn l (now (top .entry)) (now (bottom .entry))) (now (columns .entry)) ⌝ }
 {
     let n = columns.len();
     let mut nets: [u16; 128] = [0; 128];

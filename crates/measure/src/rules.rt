@@ -5,7 +5,7 @@ ghost use mathlib.Core.Bool.{not, _&&_};
 ghost use lib.ListN.{length};
 ghost use Rattle.sheet.specs.Parts.{terminalsIn};
 ghost use Rattle.measure.specs.Answer.{sideAllowed, sideKept};
-ghost use Rattle.measure.specs.Inner.{ofSide};
+ghost use Rattle.measure.specs.Inner.{sideAt};
 
 // 13 of one side: whether each column is in its terminal's set.
 pub fn all_allowed(part: &[u8], columns: &[u8]) -> bool
@@ -24,8 +24,8 @@ pub fn all_allowed(part: &[u8], columns: &[u8]) -> bool
 }
 
 // Of two parts, that of a side: 0 is the top, 1 the bottom.
-fn of_side<'a>(top: &'a [u8], bottom: &'a [u8], side: usize) -> &'a [u8]
-    ensures { λ r. ⌜ now r ≡ ofSide (now (top .entry)) (now (bottom .entry)) side ⌝ }
+fn side_at<'a>(top: &'a [u8], bottom: &'a [u8], side: usize) -> &'a [u8]
+    ensures { λ r. ⌜ now r ≡ sideAt (now (top .entry)) (now (bottom .entry)) side ⌝ }
 {
     if side == 0 { top } else { bottom }
 }
@@ -43,8 +43,8 @@ pub fn out_of_range<'a, 'b>(
     let mut found = false;
     let mut side = 0;
     'scan: while side < 2 {
-        let part = of_side(top, bottom, side);
-        let columns = of_side(tops, bottoms, side);
+        let part = side_at(top, bottom, side);
+        let columns = side_at(tops, bottoms, side);
         let mut i = 1;
         while i < columns.len() {
             let r = terminal_at(part, i + 1);

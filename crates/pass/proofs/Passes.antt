@@ -9,15 +9,16 @@ use native.Mathlib.Omega.{arith}
 use native.Mathlib.Nat.{le-refl}
 use lib.Dec.{leb, ltb, leb·zero}
 use borrow.Author.Tests.{ltb-true, ltb-false}
+use Rattle.channel.proofs.Below.{anyBelow-cong, anyBelow-none}
 use Rattle.channel.specs.Density.{mostDensity}
 use Rattle.bits.specs.Bits.{bitOf, inWord}
-use Rattle.bits.proofs.Laws.{some-cong, some-none, word-cong, word-none, bit-full}
+use Rattle.bits.proofs.Laws.{word-cong, word-none, bit-full}
 use Rattle.table.specs.Entry.{cell}
 use Rattle.table.specs.Room.{Filled, heldAt, meeting}
 use Rattle.bound.specs.LowerBound.{lowerBound}
 use Rattle.bound.proofs.LowerBound.{cell-none}
 use Rattle.pass.specs.declared.Plan.{Plan}
-use Rattle.pass.specs.Pass.{placeable, Rising, Least, tableEnd}
+use Rattle.pass.specs.Pass.{feasibleIn, Rising, Least, tableEnd}
 use Rattle.walk.specs.Walk.{ones}
 
 -- the question to the last plane of a filled table is whether all pins can be placed
@@ -25,11 +26,11 @@ pub last-plane :
     (rules loads : List ℕ) (n : Plan) (bound : ℕ) (old new : List ℕ) (mask high : ℕ)
     → Filled rules loads bound (n .grid) (n .p + 1) 0 (tableEnd n) old new → n .q < n .grid .across → n .grid .rows ≤ 64
     → ((y : ℕ) → y < 64 → bitOf mask y ≡ ltb y (n .l + 1 - n .q)) → suc high ≡ n .grid .rows
-    → meeting new (n .grid) (n .p) (n .q) 0 high 63 ones mask ≡ placeable rules loads n bound
-unfolding meeting placeable
+    → meeting new (n .grid) (n .p) (n .q) 0 high 63 ones mask ≡ feasibleIn rules loads n bound
+unfolding meeting feasibleIn
 last-plane rules loads n bound old new mask high f hq hr m eh =
     rw (← eh)
-    (some-cong (suc high)
+    (anyBelow-cong (suc high)
     (λ (x : ℕ). leb 0 x && (bitOf ones (63 - x) && inWord (λ (y : ℕ). heldAt new (n .grid) (n .p) (n .q) x y && bitOf mask y)))
     (λ (x : ℕ). inWord (λ (y : ℕ). cell rules loads bound (n .p) (n .q) x y && ltb y (n .l + 1 - n .q)))
     (λ x l.
@@ -42,10 +43,10 @@ last-plane rules loads n bound old new mask high f hq hr m eh =
 
 -- no pass under a bound below the lower bound places all pins
 pub below-lower :
-    (rules loads : List ℕ) (n : Plan) (bound : ℕ) → bound < lowerBound loads (n .p) (n .q) → placeable rules loads n bound ≡ false
-unfolding placeable
+    (rules loads : List ℕ) (n : Plan) (bound : ℕ) → bound < lowerBound loads (n .p) (n .q) → feasibleIn rules loads n bound ≡ false
+unfolding feasibleIn
 below-lower rules loads n bound h =
-    some-none (n .grid .rows) _ (λ x l. word-none _ (λ y k. rw (cell-none rules loads bound (n .p) (n .q) h x y)))
+    anyBelow-none (n .grid .rows) _ (λ x l. word-none _ (λ y k. rw (cell-none rules loads bound (n .p) (n .q) h x y)))
 
 -- where a larger bound fails, so does a smaller one
 fails-below : (f : ℕ → Bool) → Rising f → (d e : ℕ) → d ≤ e → f e ≡ false → f d ≡ false

@@ -6,14 +6,15 @@ use mathlib.Core.List.{List}
 use mathlib.Core.Bool.{Bool, true, false, _&&_}
 use lib.ListN.{length, drop}
 use lib.Dec.{ltb}
+use Rattle.channel.specs.Below.{anyBelow}
 use Rattle.channel.specs.Density.{mostDensity}
-use Rattle.bits.specs.Bits.{some, inWord}
+use Rattle.bits.specs.Bits.{inWord}
 use Rattle.table.specs.Entry.{cell}
 use Rattle.table.specs.Room.{Sides, SameGaps, Filled}
 use Rattle.pass.specs.declared.Plan.{Plan}
 use Rattle.pass.specs.declared.Outcome.{Outcome}
 use Rattle.pass.specs.declared.Outcome.the-variants as outcome
-use Rattle.walk.specs.Walk.{walked}
+use Rattle.walk.specs.Walk.{walkColumns}
 use Rattle.walk.specs.Walking.{Lies}
 
 -- what a pass is given: the rules and the loads in their arrays, the table in the work cells, and columns enough for the bottom pins
@@ -24,9 +25,9 @@ pub record Given (work rules loads : List ℕ) (n : Plan) : Type 0 where
   pub columns : n .l ≤ 64
 
 -- some place of all pins, the last bottom pin in one of the columns 1 to L
-unfoldable pub placeable : List ℕ → List ℕ → Plan → ℕ → Bool
-placeable rules loads n bound =
-    some (n .grid .rows)
+unfoldable pub feasibleIn : List ℕ → List ℕ → Plan → ℕ → Bool
+feasibleIn rules loads n bound =
+    anyBelow (n .grid .rows)
     (λ (x : ℕ). inWord (λ (y : ℕ). cell rules loads bound (n .p) (n .q) x y && ltb y (n .l + 1 - n .q)))
 
 -- a larger bound places no less
@@ -44,12 +45,12 @@ tableEnd n = (n .p + 1) * n .grid .stride
 
 -- after a pass: the table is filled, what stands behind it is as it was, and r says whether all pins can be placed
 pub record Tried (rules loads : List ℕ) (n : Plan) (bound : ℕ) (old new : List ℕ) (r : Bool) : Type 0 where
-  pub answer : r ≡ placeable rules loads n bound
+  pub answer : r ≡ feasibleIn rules loads n bound
   pub table : Filled rules loads bound (n .grid) (n .p + 1) 0 (tableEnd n) old new
 
 -- after the passes: r is the least bound, and all but the table's rows is as it was
 pub record Bounded (rules loads : List ℕ) (n : Plan) (old new : List ℕ) (r : ℕ) : Type 0 where
-  pub least : Least (placeable rules loads n) r
+  pub least : Least (feasibleIn rules loads n) r
   pub small : r ≤ mostDensity
   pub kept : length new ≡ length old
   pub behind : drop (tableEnd n) new ≡ drop (tableEnd n) old
@@ -58,10 +59,10 @@ pub record Bounded (rules loads : List ℕ) (n : Plan) (old new : List ℕ) (r :
 -- the least bound with the columns of its walk, or nothing and the columns as they were
 abbrev pub Came : List ℕ → List ℕ → Plan → List ℕ → List ℕ → List ℕ → Outcome → Type 0
 Came rules loads n new columns columns' (outcome.Least d) =
-    Least (placeable rules loads n) d
+    Least (feasibleIn rules loads n) d
     × (columns'
-    ≡ walked new rules (n .grid) (n .p) (n .q) (n .l) (record { c = n .l; i = n .p; j = n .q; top = 0; bottom = 0 }) columns)
-Came rules loads n new columns columns' outcome.Nothing = (placeable rules loads n mostDensity ≡ false) × (columns' ≡ columns)
+    ≡ walkColumns new rules (n .grid) (n .p) (n .q) (n .l) (record { c = n .l; i = n .p; j = n .q; top = 0; bottom = 0 }) columns)
+Came rules loads n new columns columns' outcome.Nothing = (feasibleIn rules loads n mostDensity ≡ false) × (columns' ≡ columns)
 
 -- the bound of the last pass: the least one, or the most that a density can be
 abbrev pub lastBound : Outcome → ℕ

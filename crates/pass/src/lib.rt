@@ -10,7 +10,7 @@ ghost use mathlib.Core.Path.{_≡_};
 ghost use mathlib.Core.Bool.{true, false, cond};
 ghost use lib.ListN.{length};
 ghost use Rattle.channel.specs.Density.{mostDensity};
-ghost use Rattle.pass.specs.Pass.{Given, placeable, Rising, Tried, Bounded, Placed};
+ghost use Rattle.pass.specs.Pass.{Given, feasibleIn, Rising, Tried, Bounded, Placed};
 
 // No density is above this.
 const MOST: u8 = 128;
@@ -80,7 +80,7 @@ fn farther(ahead: u8) -> u8
 // The least bound under which all pins can be placed, where `MOST` is such a bound and `failed` is none. It is most often close above
 // `failed`, so the passes look there first.
 fn least(work: &mut [u16], rules: &[u64], loads: &[u8], plan: Plan, failed: u8) -> u8
-    requires { ⌜ Given (now work) (now rules) (now loads) plan × (placeable (now rules) (now loads) plan failed ≡ false) × (placeable (now rules) (now loads) plan mostDensity ≡ true) × Rising (placeable (now rules) (now loads) plan) ⌝ }
+    requires { ⌜ Given (now work) (now rules) (now loads) plan × (feasibleIn (now rules) (now loads) plan failed ≡ false) × (feasibleIn (now rules) (now loads) plan mostDensity ≡ true) × Rising (feasibleIn (now rules) (now loads) plan) ⌝ }
     ensures { λ r. ⌜ Bounded (now (rules .entry)) (now (loads .entry)) plan (now (work .entry)) (now (work .exit)) r ⌝ }
 {
     let mut low = failed + 1;
@@ -105,7 +105,7 @@ fn place_above(
     failed: u8,
     columns: &mut [u8],
 ) -> Outcome
-    requires { ⌜ Given (now work) (now rules) (now loads) plan × (plan .p + plan .q ≤ length (now columns)) × (placeable (now rules) (now loads) plan failed ≡ false) × Rising (placeable (now rules) (now loads) plan) ⌝ }
+    requires { ⌜ Given (now work) (now rules) (now loads) plan × (plan .p + plan .q ≤ length (now columns)) × (feasibleIn (now rules) (now loads) plan failed ≡ false) × Rising (feasibleIn (now rules) (now loads) plan) ⌝ }
     ensures { λ r. ⌜ Placed (now (rules .entry)) (now (loads .entry)) plan (now (work .entry)) (now (work .exit)) (now (columns .entry)) (now (columns .exit)) r ⌝ }
 {
     if try_bound(work, rules, loads, plan, MOST) {
@@ -126,7 +126,7 @@ pub fn place(
     plan: Plan,
     columns: &mut [u8],
 ) -> Outcome
-    requires { ⌜ Given (now work) (now rules) (now loads) plan × (plan .p + plan .q ≤ length (now columns)) × Rising (placeable (now rules) (now loads) plan) ⌝ }
+    requires { ⌜ Given (now work) (now rules) (now loads) plan × (plan .p + plan .q ≤ length (now columns)) × Rising (feasibleIn (now rules) (now loads) plan) ⌝ }
     ensures { λ r. ⌜ Placed (now (rules .entry)) (now (loads .entry)) plan (now (work .entry)) (now (work .exit)) (now (columns .entry)) (now (columns .exit)) r ⌝ }
 {
     let bound = lower_bound(loads, plan.p, plan.q);

@@ -6,10 +6,11 @@ use native.Mathlib.Omega.{arith}
 use mathlib.Core.Path.{_≡_}
 use mathlib.Core.Bool.{Bool, true, false}
 use lib.ListN.{length}
+use Rattle.channel.proofs.Below.{anyBelow-from, anyBelow-to}
 use Rattle.channel.specs.Sheet.{Sheet}
 use Rattle.channel.specs.Word.{hasTop, hasBottom}
 use Rattle.reach.specs.Reach.{reach, feasible}
-use Rattle.reach.proofs.Reaches.{anyBelow-from, anyBelow-some, reach-none}
+use Rattle.reach.proofs.Reaches.{reach-none}
 use Rattle.reach.proofs.Rightmost.{more, lastIn, step-reach, reach-induction}
 
 -- i pins of a side, the last in u: each has a column of its own, and without pins u is 0
@@ -54,8 +55,8 @@ module _ (s : Sheet) (d : ℕ) where
       → (u : ℕ) × (v : ℕ) × (u ≤ s .columns) × (v ≤ s .columns) × (reach s d (length (s .top)) (length (s .bottom)) u v ≡ true)
   unfolding feasible
   feasible-some e =
-      let (u, hu, f) = anyBelow-some (suc (s .columns)) _ e in
-      let (v, hv, r) = anyBelow-some (suc (s .columns)) _ f in
+      let (u, hu, f) = anyBelow-to (suc (s .columns)) _ e in
+      let (v, hv, r) = anyBelow-to (suc (s .columns)) _ f in
       (u, v, omega arith, omega arith, r)
 
 -- all pins can be placed under a greater bound too

@@ -12,7 +12,7 @@ use Rattle.channel.specs.Sheet.{Terminal, Sheet}
 use Rattle.channel.specs.Assignment.{allows}
 use Rattle.channel.specs.Word.{Letter, hasTop, hasBottom}
 use Rattle.channel.specs.Cut.{count, before, occupied, firstLoad, wordLoad}
-use Rattle.reach.specs.Reach.{terminalOf, near, stands, reach}
+use Rattle.reach.specs.Reach.{terminalNumber, near, stands, reach}
 use Rattle.reach.specs.Greedy.{next}
 use Rattle.reach.proofs.Reaches.{both-hold, reach-none}
 use Rattle.reach.proofs.Rightmost.{more, lastIn, OneSide, step-reach, Back}
@@ -68,8 +68,8 @@ standing-reach s d (a ∷ w) x y h =
 -- a pin that may stand in a column is allowed there, and far enough from the one before it
 stands-parts :
     (ts : List Terminal) (i t u : ℕ) → stands ts i t u ≡ true
-    → (allows ((terminalOf ts i) .allowed) u ≡ true) × (near ts i t u ≡ true)
-stands-parts ts i t u e = and-eq-true-iff (allows ((terminalOf ts i) .allowed) u) (near ts i t u) .0 e
+    → (allows ((terminalNumber ts i) .allowed) u ≡ true) × (near ts i t u ≡ true)
+stands-parts ts i t u e = and-eq-true-iff (allows ((terminalNumber ts i) .allowed) u) (near ts i t u) .0 e
 
 -- so the one before it has it for its next
 pub stands-next : (ts : List Terminal) (k t u : ℕ) → stands ts (suc k) t u ≡ true → next ts k t u ≡ true
@@ -117,7 +117,7 @@ side-more ts f c i k t x a w p room o n size r =
     go true p q n r =
         let same : count f w ≡ k = r .pins ∙ ap pred p in
         let far : next ts k (lastOf f w) (suc c) ≡ true = rw p at (r .joined) in
-        let inSet : allows ((terminalOf ts (suc k)) .allowed) (suc c) ≡ true = stands-parts ts (suc k) t (suc c) (q refl) .0 in
+        let inSet : allows ((terminalNumber ts (suc k)) .allowed) (suc c) ≡ true = stands-parts ts (suc k) t (suc c) (q refl) .0 in
         let here : stands ts (suc k) (lastOf f w) (suc c) ≡ true = rw inSet (next-near ts k (lastOf f w) (suc c) (omega arith) far) in
         (omega arith, rw (same, size) here, rw size n)
     go false p q n r = (r .pins, refl, r .joined)

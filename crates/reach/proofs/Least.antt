@@ -1,4 +1,4 @@
--- The least bound under which all pins can be placed, with the word that the trace writes under it, is the best assignment of a sheet.
+-- The least bound under which all pins can be placed, with the word that the walk writes under it, is the best assignment of a sheet.
 -- Assumes nothing.
 use Prim.Native.Nat.{ℕ, _+_, max, _≤_, _<_}
 use native.Mathlib.Nat.{le-refl}
@@ -19,9 +19,9 @@ use Rattle.channel.specs.Best.Found.{none, found}
 use Rattle.channel.proofs.Assignments.{wordFits, length-word, columnsOf-word, fits-word, assignment-columnsOf, word-columnsOf}
 use Rattle.channel.proofs.Best.{best-answers, none-exactly}
 use Rattle.reach.specs.Reach.{feasible}
-use Rattle.reach.specs.Greedy.{trace}
+use Rattle.reach.specs.Greedy.{walkWord}
 use Rattle.reach.proofs.Smallest.{rank-same}
-use Rattle.reach.proofs.Whole.{Whole, fits-whole, whole-fits, whole-density, whole-feasible, trace-whole, trace-no-later}
+use Rattle.reach.proofs.Whole.{Whole, fits-whole, whole-fits, whole-density, whole-feasible, walk-whole, walk-no-later}
 
 -- of two words in order, the first letters are, and if they are the same, so are the rests
 noLater-parts :
@@ -90,28 +90,28 @@ module _ (s : Sheet) (sound : Sound s) where
           let f : feasible s (density s es) ≡ true = whole-feasible s (density s es) (word s es) r in
           absurd (true≢false (sym f ∙ least (density s es) (leb-false d (density s es) q)))
 
-  -- the least bound and the trace under it are the best
-  trace-best :
-      (d : ℕ) → feasible s d ≡ true → ((e : ℕ) → e < d → feasible s e ≡ false) → IsBest s d (columnsOf (trace s d))
-  trace-best d f least =
-      let r : Whole s d (trace s d) = trace-whole s d f in
-      let fit : wordFits s (trace s d) ≡ true = whole-fits s d (trace s d) r in
-      let assigned : assignment? s (columnsOf (trace s d)) ≡ true = assignment-columnsOf s (trace s d) fit in
-      let low : d ≤ density s (columnsOf (trace s d)) = assignment-bound d least (columnsOf (trace s d)) assigned in
+  -- the least bound and the word of the walk under it are the best
+  walk-best :
+      (d : ℕ) → feasible s d ≡ true → ((e : ℕ) → e < d → feasible s e ≡ false) → IsBest s d (columnsOf (walkWord s d))
+  walk-best d f least =
+      let r : Whole s d (walkWord s d) = walk-whole s d f in
+      let fit : wordFits s (walkWord s d) ≡ true = whole-fits s d (walkWord s d) r in
+      let assigned : assignment? s (columnsOf (walkWord s d)) ≡ true = assignment-columnsOf s (walkWord s d) fit in
+      let low : d ≤ density s (columnsOf (walkWord s d)) = assignment-bound d least (columnsOf (walkWord s d)) assigned in
       record {
         assignment = assigned;
-        exact = omega (arith, whole-density s d (trace s d) r, r .bound, low);
+        exact = omega (arith, whole-density s d (walkWord s d) r, r .bound, low);
         least = assignment-bound d least;
         smallest = λ es h q.
-            rw (word-columnsOf s (trace s d) fit (r .size))
-            (trace-no-later s d (word s es) (word-whole es h d (omega (arith, word-density es h))));
+            rw (word-columnsOf s (walkWord s d) fit (r .size))
+            (walk-no-later s d (word s es) (word-whole es h d (omega (arith, word-density es h))));
       }
 
--- the least bound under which all pins can be placed, with the columns of the trace under it, is the best assignment
+-- the least bound under which all pins can be placed, with the columns of the walk under it, is the best assignment
 pub search-best :
     (s : Sheet) → Sound s → (d : ℕ) → feasible s d ≡ true → ((e : ℕ) → e < d → feasible s e ≡ false)
-    → best s ≡ found d (columnsOf (trace s d))
-search-best s sound d f least = is-best s sound d (columnsOf (trace s d)) (trace-best s sound d f least)
+    → best s ≡ found d (columnsOf (walkWord s d))
+search-best s sound d f least = is-best s sound d (columnsOf (walkWord s d)) (walk-best s sound d f least)
 
 -- distinct numbers of a list are no more than the list has
 distinct-length : (ns : List ℕ) → length (distinct ns) ≤ length ns

@@ -7,33 +7,11 @@ use mathlib.Core.Bool.{Bool, true, false, _&&_, _||_, false≢true, and-false, o
 use lib.Dec.{ltb, eqb}
 use borrow.Author.Tests.{ltb-true, ltb-false, lt-ltb, le-ltb, ne-eqb}
 use Rattle.channel.specs.Sheet.{Sheet}
-use Rattle.reach.specs.Reach.{anyBelow, byTop, byBottom, byBoth, bottomsOnly, withTops, reach}
+use Rattle.reach.specs.Reach.{byTop, byBottom, byBoth, bottomsOnly, withTops, reach}
 
 -- a test of two parts, from its parts
 pub both-hold : (a b : Bool) → a ≡ true → b ≡ true → (a && b) ≡ true
 both-hold a b e f = rw (e, f)
-
--- f holds of some number below n, from the number
-pub anyBelow-from : (n : ℕ) (f : ℕ → Bool) (k : ℕ) → k < n → f k ≡ true → anyBelow n f ≡ true
-unfolding anyBelow
-anyBelow-from zero f k h e = absurd (omega arith)
-anyBelow-from (suc n) f k h e = decide (ltb k n) refl (λ l. anyBelow-from n f k l e)
-  where
-    decide : (t : Bool) → ltb k n ≡ t → (k < n → anyBelow n f ≡ true) → (f n || anyBelow n f) ≡ true
-    decide true q rest = rw (rest (ltb-true k n q)) (or-true (f n))
-    decide false q rest = let m : n ≡ k = omega (arith, ltb-false k n q) in rw (ap f m ∙ e)
-
--- and back
-pub anyBelow-some : (n : ℕ) (f : ℕ → Bool) → anyBelow n f ≡ true → (k : ℕ) × (k < n) × (f k ≡ true)
-unfolding anyBelow
-anyBelow-some zero f e = absurd (false≢true e)
-anyBelow-some (suc n) f e = decide (f n) refl e (anyBelow-some n f)
-  where
-    decide :
-        (t : Bool) → f n ≡ t → (t || anyBelow n f) ≡ true → (anyBelow n f ≡ true → (k : ℕ) × (k < n) × (f k ≡ true))
-        → (k : ℕ) × (k < suc n) × (f k ≡ true)
-    decide true q h rest = (n, omega arith, q)
-    decide false q h rest = let (k, l, r) = rest h in (k, omega arith, r)
 
 module _ (s : Sheet) (d : ℕ) where
   -- with no pins at all, both last columns are 0

@@ -7,12 +7,14 @@ use mathlib.Core.List.{List}
 use mathlib.Core.Bool.{Bool, true, false, cond, _&&_, and-false, false≢true, and-eq-true-iff}
 use lib.Dec.{leb}
 use borrow.Author.Tests.{leb-true, leb-false, le-leb, ne-eqb}
+use Rattle.channel.specs.Below.{anyBelow}
+use Rattle.channel.proofs.Below.{anyBelow-from, anyBelow-to}
 use Rattle.channel.specs.Sheet.{Terminal, Sheet}
 use Rattle.channel.specs.Word.{Letter, hasTop, hasBottom}
 use Rattle.channel.specs.Word.Letter.{empty, top, bottom, both}
 use Rattle.channel.specs.Cut.{load, occupied}
-use Rattle.reach.specs.Reach.{anyBelow, stands, reach}
-use Rattle.reach.proofs.Reaches.{both-hold, anyBelow-from, anyBelow-some, reach-none, reach-top, reach-bottom, reach-both, reach-no-top, reach-no-bottom, reach-only-tops, reach-only-bottoms}
+use Rattle.reach.specs.Reach.{stands, reach}
+use Rattle.reach.proofs.Reaches.{both-hold, reach-none, reach-top, reach-bottom, reach-both, reach-no-top, reach-no-bottom, reach-only-tops, reach-only-bottoms}
 
 -- how many pins a side has, where it has k and, if h, one more
 abbrev pub more : Bool → ℕ → ℕ
@@ -75,7 +77,7 @@ some-below :
     → (m ≤ d) × ((t : ℕ) × (t < n) × (f t ≡ true) × (g t ≡ true))
 some-below m d n f g e =
     let (x, y) = and-eq-true-iff (leb m d) (anyBelow n (λ (t : ℕ). f t && g t)) .0 e in
-    let (t, h, z) = anyBelow-some n (λ (t : ℕ). f t && g t) y in
+    let (t, h, z) = anyBelow-to n (λ (t : ℕ). f t && g t) y in
     let (p, q) = and-eq-true-iff (f t) (g t) .0 z in
     (leb-true m d x, (t, h, p, q))
 
@@ -86,8 +88,8 @@ some-two-below :
     → (m ≤ d) × ((t : ℕ) × (b : ℕ) × (t < n) × (b < n) × (f t ≡ true) × (g b ≡ true) × (h t b ≡ true))
 some-two-below m d n f g h e =
     let (x, y) = and-eq-true-iff (leb m d) (anyBelow n (λ (t : ℕ). anyBelow n (λ (b : ℕ). f t && (g b && h t b)))) .0 e in
-    let (t, k, z) = anyBelow-some n (λ (t : ℕ). anyBelow n (λ (b : ℕ). f t && (g b && h t b))) y in
-    let (b, l, w) = anyBelow-some n (λ (b : ℕ). f t && (g b && h t b)) z in
+    let (t, k, z) = anyBelow-to n (λ (t : ℕ). anyBelow n (λ (b : ℕ). f t && (g b && h t b))) y in
+    let (b, l, w) = anyBelow-to n (λ (b : ℕ). f t && (g b && h t b)) z in
     let (p, q) = and-eq-true-iff (f t) (g b && h t b) .0 w in
     let (o, r) = and-eq-true-iff (g b) (h t b) .0 q in
     (leb-true m d x, (t, b, k, l, p, o, r))
@@ -175,7 +177,6 @@ letter-with true true = (both, refl, refl)
 module _ (s : Sheet) (d : ℕ) where
   -- without columns there are no pins
   reach-start : (i j : ℕ) → reach s d i j 0 0 ≡ true → (i ≡ 0) × (j ≡ 0)
-  unfolding anyBelow
   reach-start zero zero r = (refl, refl)
   reach-start zero (suc j) r = absurd (false≢true (sym (reach-only-bottoms s d j 0) ∙ r))
   reach-start (suc i) zero r = absurd (false≢true (sym (reach-only-tops s d i 0) ∙ r))

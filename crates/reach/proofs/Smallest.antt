@@ -1,4 +1,4 @@
--- The word that the trace writes places all pins within the bound, and no word that does so comes before it.
+-- The word that the walk writes places all pins within the bound, and no word that does so comes before it.
 -- Assumes nothing.
 use Prim.Native.Nat.{ℕ, zero, suc, pred, _≤_}
 use native.Mathlib.Omega.{arith}
@@ -8,13 +8,14 @@ use mathlib.Core.Bool.{Bool, true, false, _&&_, _||_, false≢true, and-eq-true-
 use lib.ListN.{length}
 use lib.Dec.{ltb, eqb}
 use borrow.Author.Tests.{ltb-false, eq-eqb}
+use Rattle.channel.proofs.Below.{anyBelow-from, anyBelow-to}
 use Rattle.channel.specs.Sheet.{Terminal, Sheet}
 use Rattle.channel.specs.Word.{Letter, rank, hasTop, hasBottom, noLater}
 use Rattle.channel.specs.Word.Letter.{empty, top, bottom, both}
 use Rattle.channel.specs.Cut.{before}
 use Rattle.reach.specs.Reach.{reach}
-use Rattle.reach.specs.Greedy.{next, lastAt, smallestOf, placeable, choice, traceFrom}
-use Rattle.reach.proofs.Reaches.{both-hold, anyBelow-from, anyBelow-some}
+use Rattle.reach.specs.Greedy.{next, lastAt, smallestOf, letterFits, choice, walkWordFrom}
+use Rattle.reach.proofs.Reaches.{both-hold}
 use Rattle.reach.proofs.Rightmost.{more, lastIn, OneSide, At, Back, step-back, at-column, letter-with}
 use Rattle.reach.proofs.Bounds.{Held, reach-held}
 use Rattle.reach.proofs.Standing.{lastOf, lastOf-below}
@@ -37,19 +38,19 @@ lastAt-from false c f u k e = anyBelow-from (suc c) f u (omega arith) e
 
 lastAt-some : (h : Bool) (c : ℕ) (f : ℕ → Bool) → lastAt h c f ≡ true → (u : ℕ) × At h c u × (f u ≡ true)
 lastAt-some true c f e = (suc c, refl, e)
-lastAt-some false c f e = let (u, k, q) = anyBelow-some (suc c) f e in (u, omega arith, q)
+lastAt-some false c f e = let (u, k, q) = anyBelow-to (suc c) f e in (u, omega arith, q)
 
 module _ (s : Sheet) (d : ℕ) where
   -- the test of a letter says that, for the columns the letter names
-  placeable-from : (c i j x y : ℕ) (a : Letter) → Placed s d (hasTop a) (hasBottom a) c i j x y → placeable s d c i j x y a ≡ true
-  unfolding placeable
-  placeable-from c i j x y a r =
+  letterFits-from : (c i j x y : ℕ) (a : Letter) → Placed s d (hasTop a) (hasBottom a) c i j x y → letterFits s d c i j x y a ≡ true
+  unfolding letterFits
+  letterFits-from c i j x y a r =
       lastAt-from (hasTop a) c _ (r .u) (r .atTop)
       (lastAt-from (hasBottom a) c _ (r .v) (r .atBottom) (both-hold _ _ (r .reached) (both-hold _ _ (r .nextTop) (r .nextBottom))))
 
-  placeable-some : (c i j x y : ℕ) (a : Letter) → placeable s d c i j x y a ≡ true → Placed s d (hasTop a) (hasBottom a) c i j x y
-  unfolding placeable
-  placeable-some c i j x y a e =
+  letterFits-to : (c i j x y : ℕ) (a : Letter) → letterFits s d c i j x y a ≡ true → Placed s d (hasTop a) (hasBottom a) c i j x y
+  unfolding letterFits
+  letterFits-to c i j x y a e =
       let (u, hu, f) = lastAt-some (hasTop a) c _ e in
       let (v, hv, g) = lastAt-some (hasBottom a) c _ f in
       let (r, n) = and-eq-true-iff (reach s d i j u v) (next (s .top) i u x && next (s .bottom) j v y) .0 g in
@@ -113,13 +114,13 @@ module _ (s : Sheet) (d : ℕ) where
       }
 
   -- where the pins have places, some letter may stand in the column furthest right
-  some-letter : (c i j x y : ℕ) → Placed s d false false (suc c) i j x y → (a : Letter) × (placeable s d c i j x y a ≡ true)
+  some-letter : (c i j x y : ℕ) → Placed s d false false (suc c) i j x y → (a : Letter) × (letterFits s d c i j x y a ≡ true)
   some-letter c i j x y r =
       let (h, p) = at-column c (r .u) (r .atTop) in
       let (g, q) = at-column c (r .v) (r .atBottom) in
       let (a, m, n) = letter-with h g in (
         a,
-        placeable-from s d c i j x y a (record {
+        letterFits-from s d c i j x y a (record {
           u = r .u;
           v = r .v;
           atTop = rw m p;
@@ -130,27 +131,27 @@ module _ (s : Sheet) (d : ℕ) where
         }),
       )
 
-  -- from c columns down the trace places all pins, where they have places
-  abbrev pub Traced : ℕ → Type 0
-  Traced c =
+  -- from c columns down the walk places all pins, where they have places
+  abbrev pub Walked : ℕ → Type 0
+  Walked c =
       (i j x y : ℕ) → i ≤ length (s .top) → j ≤ length (s .bottom) → Placed s d false false c i j x y
-      → Done s d c i j x y (traceFrom s d c i j x y)
+      → Done s d c i j x y (walkWordFrom s d c i j x y)
 
   -- so it does from one column more, with a letter that may stand there
-  traced-more :
-      (c i j x y : ℕ) (a : Letter) → i ≤ length (s .top) → j ≤ length (s .bottom) → placeable s d c i j x y a ≡ true → Traced c
+  walked-more :
+      (c i j x y : ℕ) (a : Letter) → i ≤ length (s .top) → j ≤ length (s .bottom) → letterFits s d c i j x y a ≡ true → Walked c
       → Done s d (suc c) i j x y
-      (a ∷ traceFrom s d c (before (hasTop a) i) (before (hasBottom a) j) (lastIn (hasTop a) c x) (lastIn (hasBottom a) c y))
-  traced-more c i j x y a p q e rest =
-      let r : Placed s d (hasTop a) (hasBottom a) c i j x y = placeable-some s d c i j x y a e in
+      (a ∷ walkWordFrom s d c (before (hasTop a) i) (before (hasBottom a) j) (lastIn (hasTop a) c x) (lastIn (hasBottom a) c y))
+  walked-more c i j x y a p q e rest =
+      let r : Placed s d (hasTop a) (hasBottom a) c i j x y = letterFits-to s d c i j x y a e in
       let o : Back s d c a i j (r .u) (r .v) = step-back s d c a i j (r .u) (r .v) (r .atTop) (r .atBottom) (r .reached) in
       done-more s d c i j x y (r .u) (r .v) a _ p q o (r .nextTop) (r .nextBottom)
       (rest _ _ _ _ (before-room (hasTop a) i _ p) (before-room (hasBottom a) j _ q) (placed-rest c i j x y a r o))
 
   -- and so it does from any column
-  pub trace-done : (c : ℕ) → Traced c
-  unfolding traceFrom choice
-  trace-done zero i j x y p q r =
+  pub walk-done : (c : ℕ) → Walked c
+  unfolding walkWordFrom choice
+  walk-done zero i j x y p q r =
       let (m, n) = reach-held s d i j (r .u) (r .v) (r .reached) in
       let (a, b) = none-left i (r .u) m (r .atTop) in
       let (e, f) = none-left j (r .v) n (r .atBottom) in
@@ -160,9 +161,9 @@ module _ (s : Sheet) (d : ℕ) where
         bottom = record { pins = sym f; room = q; stand = refl; joined = rw e at (r .nextBottom) };
         bound = omega arith;
       }
-  trace-done (suc c) i j x y p q r =
+  walk-done (suc c) i j x y p q r =
       let (b, e) = some-letter c i j x y r in
-      traced-more c i j x y (choice s d c i j x y) p q (smallest-holds (placeable s d c i j x y) b e .0) (trace-done c)
+      walked-more c i j x y (choice s d c i j x y) p q (smallest-holds (letterFits s d c i j x y) b e .0) (walk-done c)
 
 -- the last pin of a word stands in the column of its first letter, if f holds of that, and else left of it
 at-last : (f : Letter → Bool) (c : ℕ) (a : Letter) (w : List Letter) → length w ≡ c → At (f a) c (lastOf f (a ∷ w))
@@ -204,10 +205,10 @@ noLater-step a b v w h e = decide (ltb (rank a) (rank b)) refl
 
 module _ (s : Sheet) (d : ℕ) where
   -- the first letter of a word that places the pins may stand in its column
-  done-placeable : (c i j x y : ℕ) (a : Letter) (w : List Letter) → Done s d (suc c) i j x y (a ∷ w) → placeable s d c i j x y a ≡ true
-  done-placeable c i j x y a w r =
+  done-fits : (c i j x y : ℕ) (a : Letter) (w : List Letter) → Done s d (suc c) i j x y (a ∷ w) → letterFits s d c i j x y a ≡ true
+  done-fits c i j x y a w r =
       let size : length w ≡ c = omega arith in
-      placeable-from s d c i j x y a (record {
+      letterFits-from s d c i j x y a (record {
         u = lastOf hasTop (a ∷ w);
         v = lastOf hasBottom (a ∷ w);
         atTop = at-last hasTop c a w size;
@@ -217,13 +218,13 @@ module _ (s : Sheet) (d : ℕ) where
         nextBottom = r .bottom .joined;
       })
 
-  -- no word that places the pins comes before the trace's
-  pub trace-first : (c i j x y : ℕ) (w : List Letter) → Done s d c i j x y w → noLater (traceFrom s d c i j x y) w ≡ true
-  unfolding traceFrom choice
-  trace-first zero i j x y w r = refl
-  trace-first (suc c) i j x y [] r = absurd (omega (arith, r .size))
-  trace-first (suc c) i j x y (b ∷ w) r =
+  -- no word that places the pins comes before the walk's
+  pub walk-first : (c i j x y : ℕ) (w : List Letter) → Done s d c i j x y w → noLater (walkWordFrom s d c i j x y) w ≡ true
+  unfolding walkWordFrom choice
+  walk-first zero i j x y w r = refl
+  walk-first (suc c) i j x y [] r = absurd (omega (arith, r .size))
+  walk-first (suc c) i j x y (b ∷ w) r =
       noLater-step (choice s d c i j x y) b
-      (λ a. traceFrom s d c (before (hasTop a) i) (before (hasBottom a) j) (lastIn (hasTop a) c x) (lastIn (hasBottom a) c y)) w
-      (smallest-holds (placeable s d c i j x y) b (done-placeable c i j x y b w r) .1)
-      (trace-first c (before (hasTop b) i) (before (hasBottom b) j) (lastIn (hasTop b) c x) (lastIn (hasBottom b) c y) w (done-rest s d c i j x y b w r))
+      (λ a. walkWordFrom s d c (before (hasTop a) i) (before (hasBottom a) j) (lastIn (hasTop a) c x) (lastIn (hasBottom a) c y)) w
+      (smallest-holds (letterFits s d c i j x y) b (done-fits c i j x y b w r) .1)
+      (walk-first c (before (hasTop b) i) (before (hasBottom b) j) (lastIn (hasTop b) c x) (lastIn (hasBottom b) c y) w (done-rest s d c i j x y b w r))

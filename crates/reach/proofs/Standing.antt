@@ -9,12 +9,12 @@ use lib.ListN.{length, take, getD, length-take}
 use lib.Seq.{take-suc, take-length}
 use lib.Dec.{leb}
 use borrow.Author.Tests.{lt-leb}
-use Rattle.channel.specs.Sheet.{Terminal}
+use Rattle.channel.specs.Sheet.{Terminal, noTerminal}
 use Rattle.channel.specs.Assignment.{allows, inRange, laterFit, sideFits}
 use Rattle.channel.specs.Word.{Letter, columnsWith}
 use Rattle.channel.specs.Cut.{count}
 use Rattle.channel.proofs.Pins.{length-columns}
-use Rattle.reach.specs.Reach.{noTerminal, stands}
+use Rattle.reach.specs.Reach.{stands}
 
 -- the last of a side's columns, or b
 abbrev final : ℕ → List ℕ → ℕ

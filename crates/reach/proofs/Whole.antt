@@ -1,4 +1,4 @@
--- The whole channel: a word of all pins within a bound is a word that fits with no load above it; the trace is one, and the first of them.
+-- The whole channel: a word of all pins within a bound is a word that fits with no load above it; the walk writes one, and the first of them.
 -- Assumes nothing.
 use Prim.Native.Nat.{ℕ, _+_, _≤_}
 use native.Mathlib.Nat.{le-refl}
@@ -17,12 +17,12 @@ use Rattle.channel.proofs.Load.{density-load}
 use Rattle.channel.proofs.Pins.{length-columns}
 use Rattle.channel.proofs.Sides.{side-count}
 use Rattle.reach.specs.Reach.{feasible}
-use Rattle.reach.specs.Greedy.{next, trace}
+use Rattle.reach.specs.Greedy.{next, walkWord}
 use Rattle.reach.proofs.Bounds.{feasible-from, feasible-some}
 use Rattle.reach.proofs.Reaches.{both-hold}
 use Rattle.reach.proofs.Standing.{lastOf, lastOf-below, side-standing}
 use Rattle.reach.proofs.Completed.{SideDone, Done, standing-reach}
-use Rattle.reach.proofs.Smallest.{trace-done, trace-first}
+use Rattle.reach.proofs.Smallest.{walk-done, walk-first}
 
 -- after the last pin of a side there is no next one
 next-none : (ts : List Terminal) (u : ℕ) → next ts (length ts) u 0 ≡ true
@@ -64,27 +64,27 @@ module _ (s : Sheet) (d : ℕ) where
       feasible-from s d (lastOf hasTop w) (lastOf hasBottom w) (rw (r .size) at (lastOf-below hasTop w)) (rw (r .size) at (lastOf-below hasBottom w))
       (rw (r .top .pins, r .bottom .pins) at (standing-reach s d w (r .top .stand) (r .bottom .stand) (r .bound)))
 
-  -- where all pins can be placed, the trace is one
-  pub trace-whole : feasible s d ≡ true → Whole s d (trace s d)
-  unfolding trace
-  trace-whole f =
+  -- where all pins can be placed, the walk writes one
+  pub walk-whole : feasible s d ≡ true → Whole s d (walkWord s d)
+  unfolding walkWord
+  walk-whole f =
       let (u, v, hu, hv, r) = feasible-some s d f in
-      trace-done s d (s .columns) (length (s .top)) (length (s .bottom)) 0 0 (le-refl _) (le-refl _)
+      walk-done s d (s .columns) (length (s .top)) (length (s .bottom)) 0 0 (le-refl _) (le-refl _)
       (record { u = u; v = v; atTop = hu; atBottom = hv; reached = r; nextTop = next-none (s .top) u; nextBottom = next-none (s .bottom) v })
 
   -- and no other comes before it
-  pub trace-no-later : (w : List Letter) → Whole s d w → noLater (trace s d) w ≡ true
-  unfolding trace
-  trace-no-later w r = trace-first s d (s .columns) (length (s .top)) (length (s .bottom)) 0 0 w r
+  pub walk-no-later : (w : List Letter) → Whole s d w → noLater (walkWord s d) w ≡ true
+  unfolding walkWord
+  walk-no-later w r = walk-first s d (s .columns) (length (s .top)) (length (s .bottom)) 0 0 w r
 
   -- so it has a letter for each column, a pin for each terminal, and as many columns
-  pub trace-pins :
+  pub walk-pins :
       feasible s d ≡ true
-      → (length (trace s d) ≡ s .columns)
-      × (count hasTop (trace s d) ≡ length (s .top))
-      × (count hasBottom (trace s d) ≡ length (s .bottom))
-      × (length (columnsOf (trace s d)) ≡ length (s .top) + length (s .bottom))
+      → (length (walkWord s d) ≡ s .columns)
+      × (count hasTop (walkWord s d) ≡ length (s .top))
+      × (count hasBottom (walkWord s d) ≡ length (s .bottom))
+      × (length (columnsOf (walkWord s d)) ≡ length (s .top) + length (s .bottom))
   unfolding columnsOf
-  trace-pins f =
-      let r : Whole s d (trace s d) = trace-whole f in
+  walk-pins f =
+      let r : Whole s d (walkWord s d) = walk-whole f in
       (r .size, r .top .pins, r .bottom .pins, rw (length-append, length-columns hasTop, length-columns hasBottom, r .top .pins, r .bottom .pins))

@@ -7,11 +7,12 @@ use mathlib.Core.List.{List, [], _∷_}
 use mathlib.Core.Bool.{Bool, true, false, cond, _&&_, _||_}
 use lib.ListN.{length}
 use lib.Dec.{eqb}
+use Rattle.channel.specs.Below.{anyBelow}
 use Rattle.channel.specs.Sheet.{Terminal, Sheet}
 use Rattle.channel.specs.Word.{Letter, hasTop, hasBottom}
 use Rattle.channel.specs.Word.Letter.{empty, top, bottom, both}
 use Rattle.channel.specs.Cut.{before}
-use Rattle.reach.specs.Reach.{anyBelow, near, reach}
+use Rattle.reach.specs.Reach.{near, reach}
 
 -- pin i of a side may stand in u, where the next one stands in x; after the last there is no next one
 abbrev pub next : List Terminal → ℕ → ℕ → ℕ → Bool
@@ -31,22 +32,22 @@ smallestOf false false false = both
 
 module _ (s : Sheet) (d : ℕ) where
   -- with this letter in column c + 1, the i and j pins can be placed in the columns 1 to c + 1
-  unfoldable pub placeable : ℕ → ℕ → ℕ → ℕ → ℕ → Letter → Bool
-  placeable c i j x y a =
+  unfoldable pub letterFits : ℕ → ℕ → ℕ → ℕ → ℕ → Letter → Bool
+  letterFits c i j x y a =
       lastAt (hasTop a) c
       (λ (u : ℕ). lastAt (hasBottom a) c (λ (v : ℕ). reach s d i j u v && (next (s .top) i u x && next (s .bottom) j v y)))
 
   -- the smallest letter for column c + 1
   unfoldable pub choice : ℕ → ℕ → ℕ → ℕ → ℕ → Letter
-  choice c i j x y = smallestOf (placeable c i j x y empty) (placeable c i j x y top) (placeable c i j x y bottom)
+  choice c i j x y = smallestOf (letterFits c i j x y empty) (letterFits c i j x y top) (letterFits c i j x y bottom)
 
   -- the letters of the columns c down to 1
-  unfoldable pub traceFrom : ℕ → ℕ → ℕ → ℕ → ℕ → List Letter
-  traceFrom zero i j x y = []
-  traceFrom (suc c) i j x y =
+  unfoldable pub walkWordFrom : ℕ → ℕ → ℕ → ℕ → ℕ → List Letter
+  walkWordFrom zero i j x y = []
+  walkWordFrom (suc c) i j x y =
       let a : Letter = choice c i j x y in
-      a ∷ traceFrom c (before (hasTop a) i) (before (hasBottom a) j) (cond (hasTop a) (suc c) x) (cond (hasBottom a) (suc c) y)
+      a ∷ walkWordFrom c (before (hasTop a) i) (before (hasBottom a) j) (cond (hasTop a) (suc c) x) (cond (hasBottom a) (suc c) y)
 
   -- the word of the whole channel
-  unfoldable pub trace : List Letter
-  trace = traceFrom (s .columns) (length (s .top)) (length (s .bottom)) 0 0
+  unfoldable pub walkWord : List Letter
+  walkWord = walkWordFrom (s .columns) (length (s .top)) (length (s .bottom)) 0 0

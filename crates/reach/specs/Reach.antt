@@ -6,32 +6,24 @@ use mathlib.Core.List.{List}
 use mathlib.Core.Bool.{Bool, false, cond, _&&_, _||_}
 use lib.ListN.{length, getD}
 use lib.Dec.{leb, ltb, eqb}
-use Rattle.channel.specs.Sheet.{Terminal, Sheet}
+use Rattle.channel.specs.Below.{anyBelow}
+use Rattle.channel.specs.Sheet.{Terminal, noTerminal, Sheet}
 use Rattle.channel.specs.Assignment.{allows, inRange}
 use Rattle.channel.specs.Word.Letter.{top, bottom, both}
 use Rattle.channel.specs.Cut.{load}
 
--- f holds of some number below n
-unfoldable pub anyBelow : ℕ → (ℕ → Bool) → Bool
-anyBelow zero f = false
-anyBelow (suc n) f = f n || anyBelow n f
-
--- a terminal that may stand nowhere
-abbrev pub noTerminal : Terminal
-noTerminal = record { net = 0; least = 0; greatest = 0; allowed = 0 }
-
 -- the i-th terminal of a side, from 1
-abbrev pub terminalOf : List Terminal → ℕ → Terminal
-terminalOf ts i = getD ts (pred i) noTerminal
+abbrev pub terminalNumber : List Terminal → ℕ → Terminal
+terminalNumber ts i = getD ts (pred i) noTerminal
 
 -- pin i of a side may stand in column u as far as its distance goes, where the pin before it stands in column t;
 -- the first pin is tied to nothing
 abbrev pub near : List Terminal → ℕ → ℕ → ℕ → Bool
-near ts i t u = leb i 1 || inRange ((terminalOf ts i) .least) ((terminalOf ts i) .greatest) t u
+near ts i t u = leb i 1 || inRange ((terminalNumber ts i) .least) ((terminalNumber ts i) .greatest) t u
 
 -- pin i of a side may stand in column u, where the pin before it stands in column t
 abbrev pub stands : List Terminal → ℕ → ℕ → ℕ → Bool
-stands ts i t u = allows ((terminalOf ts i) .allowed) u && near ts i t u
+stands ts i t u = allows ((terminalNumber ts i) .allowed) u && near ts i t u
 
 -- of the sheet s, with loads of at most d
 module _ (s : Sheet) (d : ℕ) where

@@ -15,23 +15,23 @@ use Rattle.sheet.specs.declared.Cursor.{Cursor}
 use Rattle.sheet.specs.declared.Step.{Step}
 use Rattle.sheet.specs.declared.Step.the-variants.{Finished}
 use Rattle.sheet.specs.declared.Visit.{Visit}
-use Rattle.sheet.specs.Walk.{visits, walk, stepIn, stepAs}
-use Rattle.sheet.proofs.Laws.{walk-of, step-of}
+use Rattle.sheet.specs.Visits.{visits, allVisits, stepIn, stepAs}
+use Rattle.sheet.proofs.Laws.{visits-of, length-visits, step-of}
 use Rattle.reader.specs.Reader.{stepAt, passedAfter}
-use Rattle.reader.specs.Steps.{placeAfter, stepNumber, terminalOf, terminalsBy, Reads}
+use Rattle.reader.specs.Steps.{placeAfter, stepNumber, visitIn, terminalsBy, Reads}
 
 -- what a list has after p of it, with the cursor past that
 abbrev after : List Visit → ℕ → Step
 after vs p = stepIn vs p (record { passed = p + 1 })
 
 -- the place after a step is one further where it found a terminal
-place-next : (vs : List Visit) (k p : ℕ) → (let s : Step = stepIn vs k (record { passed = p + 1 }) in passedAfter s p ≡ p + length (terminalOf s))
+place-next : (vs : List Visit) (k p : ℕ) → (let s : Step = stepIn vs k (record { passed = p + 1 }) in passedAfter s p ≡ p + length (visitIn s))
 place-next [] k p = omega arith
 place-next (v ∷ vs) zero p = refl
 place-next (v ∷ vs) (suc k) p = place-next vs k p
 
 -- n + 1 of a list are n of it and what a step then finds
-take-next : (vs : List Visit) (n : ℕ) (c : Cursor) → take n vs ++ terminalOf (stepIn vs (length (take n vs)) c) ≡ take (suc n) vs
+take-next : (vs : List Visit) (n : ℕ) (c : Cursor) → take n vs ++ visitIn (stepIn vs (length (take n vs)) c) ≡ take (suc n) vs
 take-next [] zero c = refl
 take-next [] (suc n) c = refl
 take-next (v ∷ vs) zero c = refl
@@ -53,32 +53,28 @@ module _ (b : List ℕ) (vs : List Visit) (has : (p : ℕ) → stepAt b p ≡ af
   first zero = (refl, refl)
   first (suc n) =
       let found : stepNumber b n ≡ after vs (length (take n vs)) = number n (first n .1) in
-      let next : take n vs ++ terminalOf (after vs (length (take n vs))) ≡ take (suc n) vs = take-next vs n _ in (
-        (λ i. first n .0 i ++ terminalOf (found i)) ∙ next,
+      let next : take n vs ++ visitIn (after vs (length (take n vs))) ≡ take (suc n) vs = take-next vs n _ in (
+        (λ i. first n .0 i ++ visitIn (found i)) ∙ next,
         (λ i. passedAfter (found i) (first n .1 i))
             ∙ place-next vs (length (take n vs)) (length (take n vs))
-            ∙ sym (length-append (take n vs) (terminalOf (after vs (length (take n vs)))))
+            ∙ sym (length-append (take n vs) (visitIn (after vs (length (take n vs)))))
             ∙ ap length next,
       )
 
   finishes : (n : ℕ) → length vs ≤ n → stepNumber b n ≡ Finished
   finishes n h = number n (first n .1) ∙ past-end vs n _ h
 
-length-visits : (side : Side) (k : ℕ) (ts : List Terminal) → length (visits side k ts) ≡ length ts
-length-visits side k [] = refl
-length-visits side k (t ∷ ts) = ap suc (length-visits side (k + 1) ts)
-
-length-walk : (s : Sheet) → length (walk s) ≡ length (s .top) + length (s .bottom)
-length-walk s =
-    ap length (walk-of s)
+length-all : (s : Sheet) → length (allVisits s) ≡ length (s .top) + length (s .bottom)
+length-all s =
+    ap length (visits-of s)
     ∙ length-append (visits Top 1 (s .top)) (visits Bottom 1 (s .bottom))
     ∙ (λ i. length-visits Top 1 (s .top) i + length-visits Bottom 1 (s .bottom) i)
 
 reads-as : (b : List ℕ) (r : Read) → ((p : ℕ) → stepAt b p ≡ stepAs p r) → Reads b r
 reads-as b (sound s) has =
     record {
-      each = λ n. first b (walk s) has n .0 ∙ ap (take n) (walk-of s);
-      end = λ n h. finishes b (walk s) has n (omega (arith, length-walk s, h));
+      each = λ n. first b (allVisits s) has n .0 ∙ ap (take n) (visits-of s);
+      end = λ n h. finishes b (allVisits s) has n (omega (arith, length-all s, h));
     }
 reads-as b (refused why) has = λ n. has (placeAfter b n)
 

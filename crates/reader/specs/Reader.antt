@@ -6,10 +6,10 @@ use mathlib.Core.List.{List}
 use denote.Ref.{now}
 use Rattle.sheet.specs.declared.Step.{Step}
 use Rattle.sheet.specs.declared.Step.the-variants.{Terminal, Finished}
-use Rattle.sheet.specs.Walk.{stepOf}
+use Rattle.sheet.specs.Visits.{stepOf}
 use Rattle.reader.specs.declared.Reader.{Reader}
 
--- what a sheet has after so many terminals: the next of its walk, with its side, place and record, or the end
+-- what a sheet has after so many terminals: the next of them, with its side, place and record, or the end
 abbrev pub stepAt : List ℕ → ℕ → Step
 stepAt b passed = stepOf b (record { passed = passed })
 

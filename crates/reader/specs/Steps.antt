@@ -11,7 +11,7 @@ use Rattle.soundness.specs.Read.Read.{sound, refused}
 use Rattle.sheet.specs.declared.Step.{Step}
 use Rattle.sheet.specs.declared.Step.the-variants.{Terminal, Finished}
 use Rattle.sheet.specs.declared.Visit.{Visit}
-use Rattle.sheet.specs.Walk.{visits}
+use Rattle.sheet.specs.Visits.{visits}
 use Rattle.reader.specs.Reader.{stepAt, passedAfter}
 
 -- the place of a new reader after n steps
@@ -23,14 +23,14 @@ placeAfter b (suc n) = passedAfter (stepAt b (placeAfter b n)) (placeAfter b n)
 abbrev pub stepNumber : List ℕ → ℕ → Step
 stepNumber b n = stepAt b (placeAfter b n)
 
-abbrev pub terminalOf : Step → List Visit
-terminalOf (Terminal v past) = v ∷ []
-terminalOf Finished = []
+abbrev pub visitIn : Step → List Visit
+visitIn (Terminal v past) = v ∷ []
+visitIn Finished = []
 
 -- the terminals that the first n steps find
 abbrev pub terminalsBy : List ℕ → ℕ → List Visit
 terminalsBy b zero = []
-terminalsBy b (suc n) = terminalsBy b n ++ terminalOf (stepNumber b n)
+terminalsBy b (suc n) = terminalsBy b n ++ visitIn (stepNumber b n)
 
 pub record ReadsAll (b : List ℕ) (s : Sheet) : Type 0 where
   -- "its terminals, top then bottom, each once with its side, place and record": n steps find the first n

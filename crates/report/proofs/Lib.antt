@@ -1,2 +1,2 @@
-pub mod Walked
+pub mod Lines
 pub mod Prints

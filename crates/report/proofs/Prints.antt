@@ -19,7 +19,7 @@ use Rattle.search.proofs.Found.{columns-found, Finds, finds, zero-found}
 use Rattle.text.specs.Writing.{Wrote}
 use Rattle.report.specs.Text.{lines}
 use Rattle.report.specs.Printed.{refusal, headed, result, answered, searchText, printed, Prints}
-use Rattle.report.specs.Writing.{walkOf}
+use Rattle.report.specs.Writing.{visitsOf}
 
 -- a text at the buffer's start
 pub at-start :
@@ -73,8 +73,8 @@ module _ (input buffer work buffer' work' : List ℕ) (r : Searched) (searches :
         pub found-pins : shapeOf input .pins ≤ 128
         found-pins = rw (shape-read input (sheetOf input) (found-best .long .reads), ← columns) (found-best .long .pins)
 
-        pub found-text : headed d (lines (walkOf input) (take (shapeOf input .pins) buffer')) ≡ printed input
-        unfolding walkOf
+        pub found-text : headed d (lines (visitsOf input) (take (shapeOf input .pins) buffer')) ≡ printed input
+        unfolding visitsOf
         found-text =
             let f = found-best in
             rw (shape-read input (sheetOf input) (f .long .reads), f .long .reads, columns-found searches (f .long) (f .best))

@@ -10,7 +10,7 @@ use Rattle.channel.specs.Sheet.{Sheet}
 use Rattle.channel.specs.Best.{Found, best}
 use Rattle.channel.specs.Best.Found.{none, found}
 use Rattle.soundness.specs.Read.{sheetOf}
-use Rattle.sheet.specs.Walk.{walk}
+use Rattle.sheet.specs.Visits.{allVisits}
 use Rattle.search.specs.declared.Searched.{Searched}
 use Rattle.search.specs.declared.Searched.the-variants as searched
 use Rattle.search.specs.Answer.{searchedOf, numberOf}
@@ -26,7 +26,7 @@ headed d rest = field densityName d ++ (newline ++ rest)
 
 abbrev pub result : Sheet → Found → List ℕ
 result s none = refusal 11
-result s (found d cs) = headed d (lines (walk s) cs)
+result s (found d cs) = headed d (lines (allVisits s) cs)
 
 -- the text of a search's answer
 abbrev pub answered : Searched → Sheet → List ℕ

@@ -8,7 +8,7 @@ use Rattle.soundness.specs.declared.Side.{Side}
 use Rattle.sheet.specs.declared.Visit.{Visit}
 use Rattle.soundness.specs.Read.{Read, read}
 use Rattle.soundness.specs.Read.Read.{sound, refused}
-use Rattle.sheet.specs.Walk.{walk}
+use Rattle.sheet.specs.Visits.{allVisits}
 use Rattle.report.specs.Text.{line}
 
 -- the line of the terminal at a side and place, with column c; none where there is no terminal
@@ -17,9 +17,9 @@ entryLine side place (Terminal r) c = line (record { side = side; place = place;
 entryLine side place Nothing c = []
 
 -- the terminals of a sheet as read, top then bottom
-abbrev pub walkAs : Read → List Visit
-walkAs (sound s) = walk s
-walkAs (refused n) = []
+abbrev pub visitsAs : Read → List Visit
+visitsAs (sound s) = allVisits s
+visitsAs (refused n) = []
 
-unfoldable pub walkOf : List ℕ → List Visit
-walkOf b = walkAs (read b)
+unfoldable pub visitsOf : List ℕ → List Visit
+visitsOf b = visitsAs (read b)

@@ -9,7 +9,7 @@ ghost use mathlib.Core.Path.{_≡_};
 ghost use Prim.Native.Nat.{_+_, _*_, _≤_};
 ghost use lib.ListN.{length};
 ghost use Rattle.sheet.specs.Parts.{terminalsIn};
-ghost use Rattle.sheet.specs.Walk.{visits};
+ghost use Rattle.sheet.specs.Visits.{visits};
 ghost use Rattle.text.specs.Writing.{Wrote};
 ghost use Rattle.report.specs.Text.{letterOf, line, lines};
 ghost use Rattle.report.specs.Writing.{entryLine};

@@ -10,7 +10,7 @@ use native.Mathlib.Numerals.{add-one}
 use lib.ListN.{length, getD}
 use lib.Dec.{leb, ltb, eqb, leb·suc-suc}
 use borrow.Author.Tests.{le-leb, lt-leb, ltb-true, ltb-false, lt-ltb, le-ltb, eqb-true, eqb-false}
-use Rattle.channel.specs.Sheet.{Terminal}
+use Rattle.channel.specs.Sheet.{Terminal, noTerminal}
 use Rattle.channel.specs.Assignment.{allows, inRange}
 use Rattle.channel.proofs.Sets.{allows-at}
 use Rattle.terminal.specs.declared.Record.{Record}
@@ -19,7 +19,7 @@ use Rattle.sheet.specs.declared.Entry.{Entry}
 use Rattle.sheet.specs.declared.Entry.the-variants.{Terminal as Found, Nothing}
 use Rattle.sheet.specs.Parts.{nth, terminalsIn, entryIn}
 use Rattle.sheet.proofs.Laws.{entry-at, entry-in, entry-there}
-use Rattle.reach.specs.Reach.{noTerminal, terminalOf}
+use Rattle.reach.specs.Reach.{terminalNumber}
 use Rattle.bits.specs.Bits.{bitOf}
 use Rattle.bits.proofs.Laws.{bit-zero, bit-shr, bit-full}
 use Rattle.rules.specs.Sides.{TerminalRule}
@@ -98,7 +98,7 @@ module _ (part : List ℕ) (place : ℕ) (found : Entry) (answer : found ≡ ent
 
   module _ (r : Record) (p : 1 ≤ place) (e : found ≡ Found r) where
     -- the record is the terminal's
-    here : recordOf (terminalOf (terminalsIn part) place) ≡ r
+    here : recordOf (terminalNumber (terminalsIn part) place) ≡ r
     here =
         let ts : List Terminal = terminalsIn part in
         ap (λ (k : ℕ). recordOf (getD ts k noTerminal)) (omega arith)
@@ -106,7 +106,7 @@ module _ (part : List ℕ) (place : ℕ) (found : Entry) (answer : found ≡ ent
 
     -- and so is its set, shifted down
     allowed-word :
-        (x : ℕ) → bitOf (r .allowed / 2 ^ (place - 1)) x ≡ allows ((terminalOf (terminalsIn part) place) .allowed) (x + place)
+        (x : ℕ) → bitOf (r .allowed / 2 ^ (place - 1)) x ≡ allows ((terminalNumber (terminalsIn part) place) .allowed) (x + place)
     allowed-word x = allowed-shift (r .allowed) place x p ∙ ap (λ (q : Record). allows (q .allowed) (x + place)) (sym here)
 
     -- the first terminal's rule has every distance, and a later one's those in its range

@@ -8,18 +8,18 @@ use Rattle.channel.specs.Sheet.{Terminal}
 use Rattle.channel.specs.Assignment.{allows}
 use Rattle.bits.specs.Bits.{bitOf}
 use Rattle.arrays.specs.Rules.{pins, rangeAt, allowedAt}
-use Rattle.reach.specs.Reach.{terminalOf, near}
+use Rattle.reach.specs.Reach.{terminalNumber, near}
 
 -- one side's rules, 0 top and 1 bottom: bit e of a range is the distance e + 1, and bit x of an allowed set is the column x + i
 pub record SideRules (side : ℕ) (ts : List Terminal) (rules : List ℕ) : Type 0 where
   pub range : (i e t : ℕ) → 1 ≤ i → i ≤ length ts → e < 64 → bitOf (rangeAt rules side i) e ≡ near ts i t (t + suc e)
   pub allowed :
-      (i x : ℕ) → 1 ≤ i → i ≤ length ts → bitOf (allowedAt rules side i) x ≡ allows ((terminalOf ts i) .allowed) (x + i)
+      (i x : ℕ) → 1 ≤ i → i ≤ length ts → bitOf (allowedAt rules side i) x ≡ allows ((terminalNumber ts i) .allowed) (x + i)
 
 -- the two words of a side's i-th terminal, as `SideRules` has them
 pub record TerminalRule (ts : List Terminal) (i rangeWord allowedWord : ℕ) : Type 0 where
   pub range : (e t : ℕ) → e < 64 → bitOf rangeWord e ≡ near ts i t (t + suc e)
-  pub allowed : (x : ℕ) → bitOf allowedWord x ≡ allows ((terminalOf ts i) .allowed) (x + i)
+  pub allowed : (x : ℕ) → bitOf allowedWord x ≡ allows ((terminalNumber ts i) .allowed) (x + i)
 
 -- the two words of a terminal are as they were
 abbrev pub SameRule : ℕ → ℕ → List ℕ → List ℕ → Type 0

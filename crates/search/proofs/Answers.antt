@@ -15,7 +15,7 @@ use Rattle.soundness.specs.Read.{sheetOf}
 use Rattle.sheet.specs.declared.Layout.{Layout}
 use Rattle.sheet.specs.declared.Opened.the-variants as opened
 use Rattle.sheet.specs.declared.Shape.{Shape}
-use Rattle.sheet.specs.Parts.{shape, openedOf, bytesOf, terminalsIn}
+use Rattle.sheet.specs.Parts.{shape, openedOf, bytesOf, terminalsIn, sheetIn}
 use Rattle.soundness.proofs.Laws.{read-sound}
 use Rattle.sheet.proofs.Laws.{opened-refused, Opens, opens}
 use Rattle.search.specs.declared.Searched.{Searched}
@@ -23,7 +23,7 @@ use Rattle.search.specs.declared.Searched.the-variants as searched
 use Rattle.pass.specs.declared.Outcome.{Outcome}
 use Rattle.pass.specs.declared.Outcome.the-variants as outcome
 use Rattle.search.specs.Answer.{pinsNeeded, cellsNeeded, answerAs, answerIn, answerIf, searchedOf, withColumns, columnsIf, columnsAfter, cleared, workIf, workAfter, Searches}
-use Rattle.search.specs.Solved.{sheetIn, Asked, outcomeOf, Solved}
+use Rattle.search.specs.Solved.{Asked, outcomeOf, Solved}
 
 module _ (b columns work : List ℕ) where
   -- the buffers go by the answer

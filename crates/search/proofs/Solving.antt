@@ -17,28 +17,28 @@ use Rattle.channel.specs.Best.Found.{none, found}
 use Rattle.channel.specs.Word.{columnsOf}
 use Rattle.channel.specs.Word.Letter.{top, bottom, both}
 use Rattle.sheet.specs.declared.Shape.{Shape}
-use Rattle.sheet.specs.Parts.{terminalsIn}
+use Rattle.sheet.specs.Parts.{terminalsIn, sheetIn}
 use Rattle.arrays.specs.Rules.{ruleWords}
 use Rattle.arrays.specs.Loads.{loadBytes}
 use Rattle.load.specs.Cuts.{Cell, AllLoads, netsIn}
 use Rattle.load.proofs.LoadOf.{load-of, cell-top, cell-bottom, cell-both}
 use Rattle.table.specs.Room.{Measures}
 use Rattle.reach.specs.Reach.{feasible}
-use Rattle.reach.specs.Greedy.{trace}
+use Rattle.reach.specs.Greedy.{walkWord}
 use Rattle.reach.proofs.Bounds.{feasible-some, reach-held}
 use Rattle.reach.proofs.Least.{search-best, search-none}
-use Rattle.reach.proofs.Whole.{trace-pins}
+use Rattle.reach.proofs.Whole.{walk-pins}
 use Rattle.pass.specs.declared.Plan.{Plan}
 use Rattle.pass.specs.declared.Outcome.{Outcome}
 use Rattle.pass.specs.declared.Outcome.the-variants as outcome
 use Rattle.rules.specs.Sides.{SideRules}
-use Rattle.pass.specs.Pass.{Given, placeable, Rising, Least, Placed, tableEnd}
+use Rattle.pass.specs.Pass.{Given, feasibleIn, Rising, Least, Placed, tableEnd}
 use Rattle.agreement.specs.Ready.{SheetLoads, Ready}
 use Rattle.search.specs.Answer.{withColumns, cleared}
-use Rattle.search.specs.Solved.{sheetIn, planOf, Asked, outcomeOf, Worked, Solved}
+use Rattle.search.specs.Solved.{planOf, Asked, outcomeOf, Worked, Solved}
 use Rattle.walk.specs.Walking.{Lies}
-use Rattle.agreement.proofs.Feasible.{placeable-feasible, placeable-rising}
-use Rattle.agreement.proofs.Traced.{walked-trace}
+use Rattle.agreement.proofs.Feasible.{feasible-in, feasible-rising}
+use Rattle.agreement.proofs.Walked.{walk-columns}
 
 -- the loads of all cuts of two sections are those of their sheet
 pub loads-sheet :
@@ -156,18 +156,18 @@ pub came-best :
     → (r ≡ outcomeOf (best s)) × (columns' ≡ withColumns (best s) columns)
 came-best s rules loads n ready old new columns columns' room (outcome.Least d) placed =
     let (least, written) = placed .came in
-    let can : feasible s d ≡ true = sym (placeable-feasible s rules loads n ready d) ∙ least .holds in
-    let e : best s ≡ found d (columnsOf (trace s d))
-    = search-best s (ready .sound) d can (λ k l. sym (placeable-feasible s rules loads n ready k) ∙ least .smaller k l) in
-    let size : length (columnsOf (trace s d)) ≡ n .p + n .q = omega (arith, trace-pins s d can .3, ready .p, ready .q) in (
+    let can : feasible s d ≡ true = sym (feasible-in s rules loads n ready d) ∙ least .holds in
+    let e : best s ≡ found d (columnsOf (walkWord s d))
+    = search-best s (ready .sound) d can (λ k l. sym (feasible-in s rules loads n ready k) ∙ least .smaller k l) in
+    let size : length (columnsOf (walkWord s d)) ≡ n .p + n .q = omega (arith, walk-pins s d can .3, ready .p, ready .q) in (
       rw e,
       written
-          ∙ walked-trace s rules loads n ready d can new old _ (placed .table) columns room
-          ∙ rw e (ap (λ (k : ℕ). columnsOf (trace s d) ++ drop k columns) (sym size)),
+          ∙ walk-columns s rules loads n ready d can new old _ (placed .table) columns room
+          ∙ rw e (ap (λ (k : ℕ). columnsOf (walkWord s d) ++ drop k columns) (sym size)),
     )
 came-best s rules loads n ready old new columns columns' room outcome.Nothing placed =
     let (never, same) = placed .came in
-    let e : best s ≡ none = search-none s (ready .sound) (sym (placeable-feasible s rules loads n ready mostDensity) ∙ never) in
+    let e : best s ≡ none = search-none s (ready .sound) (sym (feasible-in s rules loads n ready mostDensity) ∙ never) in
     (rw e, rw e same)
 
 module _ (tops bottoms : List ℕ) (n : Shape) (columns work : List ℕ)
@@ -182,7 +182,7 @@ module _ (tops bottoms : List ℕ) (n : Shape) (columns work : List ℕ)
     -- what the passes ask
     pub place-asked :
         length rules ≡ ruleWords → length loads ≡ loadBytes
-        → Given work rules loads plan × (plan .p + plan .q ≤ length columns) × Rising (placeable rules loads plan)
+        → Given work rules loads plan × (plan .p + plan .q ≤ length columns) × Rising (feasibleIn rules loads plan)
     place-asked er el = (
       record {
         sides = record { rules = er; loads = el };
@@ -194,7 +194,7 @@ module _ (tops bottoms : List ℕ) (n : Shape) (columns work : List ℕ)
         columns = rw planned (asked .sound .columns .1);
       },
       rw planned (omega (arith, asked .pins, pin-count tops bottoms n (length columns) (length work) asked)),
-      placeable-rising _ rules loads plan plan-ready,
+      feasible-rising _ rules loads plan plan-ready,
     )
 
     -- and what they come to

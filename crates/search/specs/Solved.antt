@@ -6,19 +6,15 @@ use mathlib.Core.List.{List}
 use mathlib.Core.Bool.{cond}
 use lib.ListN.{length, drop}
 use lib.Dec.{eqb}
-use Rattle.channel.specs.Sheet.{Sheet, Sound}
+use Rattle.channel.specs.Sheet.{Sound}
 use Rattle.channel.specs.Best.{Found, best}
 use Rattle.channel.specs.Best.Found.{none, found}
 use Rattle.sheet.specs.declared.Shape.{Shape}
-use Rattle.sheet.specs.Parts.{terminalsIn, shape}
+use Rattle.sheet.specs.Parts.{terminalsIn, sheetIn, shape}
 use Rattle.pass.specs.declared.Plan.{Plan}
 use Rattle.pass.specs.declared.Outcome.{Outcome}
 use Rattle.pass.specs.declared.Outcome.the-variants as outcome
 use Rattle.search.specs.Answer.{withColumns, cleared}
-
--- the sheet of two sections
-abbrev pub sheetIn : ℕ → List ℕ → List ℕ → Sheet
-sheetIn l top bottom = record { columns = l; top = terminalsIn top; bottom = terminalsIn bottom }
 
 -- the measures of the table for p top and q bottom pins in l columns
 abbrev pub planOf : ℕ → ℕ → ℕ → Plan

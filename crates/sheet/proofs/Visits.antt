@@ -1,4 +1,4 @@
--- Laws of the walk: what a step finds on the top side, on the bottom side and past both.
+-- Laws of the steps: what a step finds on the top side, on the bottom side and past both.
 -- Assumes nothing.
 use Prim.Native.Nat.{ℕ, zero, suc, _+_, _-_, _≤_, _<_}
 use mathlib.Core.Path.{_≡_, refl, sym, _∙_, ap}
@@ -16,7 +16,7 @@ use Rattle.sheet.specs.declared.Cursor.{Cursor}
 use Rattle.sheet.specs.declared.Step.the-variants.{Finished}
 use Rattle.sheet.specs.declared.Visit.{Visit}
 use Rattle.sheet.specs.Parts.{shapeAs, nth, entryOf, entryAs}
-use Rattle.sheet.specs.Walk.{visits, walk, visitOf, stepIn, stepAs}
+use Rattle.sheet.specs.Visits.{visits, allVisits, visitOf, stepIn, stepAs}
 
 -- a step within one side, of which the first place is j, and a step past it
 module _ (side : Side) (vs : List Visit) (next : Cursor) where
@@ -45,11 +45,11 @@ step-place side vs next ts k h =
 next : ℕ → Cursor
 next passed = record { passed = passed + 1 }
 
--- past the top side the walk goes on with the bottom side
+-- past the top side the steps go on with the bottom side
 step-below :
     (s : Sheet) (passed : ℕ) → length (s .top) ≤ passed
-    → stepIn (walk s) passed (next passed) ≡ stepIn (visits Bottom 1 (s .bottom) ++ []) (passed - length (s .top)) (next passed)
-unfolding walk
+    → stepIn (allVisits s) passed (next passed) ≡ stepIn (visits Bottom 1 (s .bottom) ++ []) (passed - length (s .top)) (next passed)
+unfolding allVisits
 step-below s passed h =
     rw (append-nil (visits Bottom 1 (s .bottom))) (step-past Top (visits Bottom 1 (s .bottom)) (next passed) 1 (s .top) passed h)
 
@@ -58,7 +58,7 @@ module _ (passed : ℕ) where
   pub step-top :
       (r : Read) → passed < shapeAs r .top
       → visitOf Top (passed + 1) (record { passed = passed + 1 }) (entryAs Top (passed + 1) r) ≡ stepAs passed r
-  unfolding walk next
+  unfolding allVisits next
   step-top (sound s) h = sym (step-place Top (visits Bottom 1 (s .bottom)) (next passed) (s .top) passed h)
   step-top (refused n) h = absurd (omega arith)
 

@@ -5,7 +5,7 @@ use mathlib.Core.Path.{_≡_}
 use mathlib.Core.List.{List, [], _∷_}
 use lib.ListN.{length, take, drop}
 use denote.Ref.{RefT, now}
-use Rattle.channel.specs.Sheet.{Terminal, terminals}
+use Rattle.channel.specs.Sheet.{Terminal, Sheet, sheetWith, terminals}
 use Rattle.channel.specs.Sheet as channel
 use Rattle.terminal.specs.Terminal.{recordOf}
 use Rattle.soundness.specs.declared.Checked.{Checked}
@@ -104,6 +104,10 @@ entryOf ts (suc k) = nth ts k
 -- of a section's bytes
 unfoldable pub terminalsIn : List ℕ → List Terminal
 terminalsIn part = terminalsFrom part 0 (length part / recordSize)
+
+-- the sheet of a channel's length and two sections
+abbrev pub sheetIn : ℕ → List ℕ → List ℕ → Sheet
+sheetIn l top bottom = sheetWith l (terminalsIn top) (terminalsIn bottom)
 
 unfoldable pub entryIn : List ℕ → ℕ → Entry
 entryIn part place = entryOf (terminalsIn part) place

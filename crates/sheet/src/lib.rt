@@ -1,7 +1,7 @@
-// The sheet layer: the parts of a sound sheet, and the walk through its terminals.
+// The sheet layer: the parts of a sound sheet, and the steps through its terminals.
 
 mod parts;
-mod walk;
+mod steps;
 
 pub use parts::count_in;
 pub use parts::open;
@@ -49,7 +49,7 @@ pub struct Cursor {
     pub passed: usize,
 }
 
-// One terminal of a walk: its side, its place in that side's order from 1, and its record.
+// One terminal of a sheet: its side, its place in that side's order from 1, and its record.
 pub struct Visit {
     pub side: Side,
     pub place: usize,

@@ -2,7 +2,7 @@
 -- Assumes nothing.
 use Prim.Native.Nat.{ℕ}
 use mathlib.Core.List.{List}
-use Rattle.channel.specs.Sheet.{Sheet}
+use Rattle.channel.specs.Sheet.{Sheet, sheetWith}
 use Rattle.terminal.specs.Refusals.{numberOf}
 use Rattle.soundness.specs.declared.Checked.{Checked}
 use Rattle.soundness.specs.declared.Checked.the-variants.{Sound, Refused}
@@ -15,12 +15,7 @@ pub data Read : Type 0 where
 
 -- the trailer's L, and each side's records from its offset on
 unfoldable pub sheetOf : List ℕ → Sheet
-sheetOf b =
-    record {
-      columns = trailerOf b .columns;
-      top = terminalsOf b (trailerOf b .top);
-      bottom = terminalsOf b (trailerOf b .bottom);
-    }
+sheetOf b = sheetWith (trailerOf b .columns) (terminalsOf b (trailerOf b .top)) (terminalsOf b (trailerOf b .bottom))
 
 -- a sheet that is sound, or the number of the first refusal that applies
 abbrev pub readAs : Sheet → Checked → Read

@@ -10,7 +10,7 @@ use native.Mathlib.Numerals.{add-one}
 use lib.ListN.{length, getD, take, drop, set, drop-of-length-le, length-map, length-append, length-drop, List·getD-map}
 use lib.Seq.{drop-cons, take-suc, take-suc-set, take-all, take-at}
 use lib.Dec.{eqb}
-use Rattle.channel.specs.Sheet.{Terminal}
+use Rattle.channel.specs.Sheet.{Terminal, noTerminal}
 use Rattle.channel.specs.Density.{any}
 use Rattle.channel.specs.Spans.{endFrom}
 use Rattle.channel.specs.Cut.{nets}
@@ -23,10 +23,6 @@ use Rattle.spans.specs.Spans.{recordOr, pinsOf}
 -- the first of what is left of a list, and what stands behind it
 pub drop-next : {A : Type 0} (xs : List A) (i : ℕ) (d : A) → i < length xs → drop i xs ≡ getD xs i d ∷ drop (i + 1) xs
 drop-next xs i d h = rw add-one (drop-cons xs i d h)
-
--- stands past a side's end
-abbrev pub noTerminal : Terminal
-noTerminal = record { net = 0; least = 0; greatest = 0; allowed = 0 }
 
 -- the record of an entry is that of the terminal
 nth-record : (ts : List Terminal) (i : ℕ) → recordOr (nth ts i) ≡ recordOf (getD ts i noTerminal)

@@ -7,8 +7,9 @@ use mathlib.Core.Bool.{Bool, true, false, _&&_, and-false}
 use native.Mathlib.Omega.{arith}
 use lib.Dec.{leb, ltb, eqb}
 use borrow.Author.Tests.{ltb-true, ltb-false, leb-true, leb-false, lt-ltb, le-ltb, eq-eqb, ne-eqb, eqb-true, eqb-false}
-use Rattle.bits.specs.Bits.{bitOf, some, stepped}
-use Rattle.bits.proofs.Laws.{some-cong}
+use Rattle.channel.specs.Below.{anyBelow}
+use Rattle.channel.proofs.Below.{anyBelow-cong}
+use Rattle.bits.specs.Bits.{bitOf, stepped}
 use Rattle.arrays.specs.Rules.{allowedAt, rangeAt}
 use Rattle.arrays.specs.Loads.{loadAt}
 use Rattle.table.specs.Entry.{topPart, bottomPart, bothPart}
@@ -43,7 +44,7 @@ module _ (rules loads : List ℕ) (bound i j : ℕ) (x y : ℕ) where
     -- the rows found, below the column of the top pin
     pub top-found :
         (found mask : Bool) → (i ≡ 0 → ⊥) → j < x + i → leb (loadAt loads i j 0) bound ≡ true → bitOf (allowedAt rules 0 i) x ≡ true
-        → found ≡ some (suc x) (λ (n : ℕ). bitOf (rangeAt rules 0 i) (x - n) && above n y) → mask ≡ ltb y (x + i - j)
+        → found ≡ anyBelow (suc x) (λ (n : ℕ). bitOf (rangeAt rules 0 i) (x - n) && above n y) → mask ≡ ltb y (x + i - j)
         → (found && mask) ≡ topPart rules loads bound i j above x y
     top-found found mask some-pin right light free e m =
         rw (lt-ltb 0 i (omega (arith, some-pin)), light, free, ← e, m)
@@ -63,7 +64,7 @@ module _ (rules loads : List ℕ) (bound i j : ℕ) (x y : ℕ) where
     -- the numbers reached, behind the column of the top pin
     pub bottom-found :
         (found free mask : Bool) → (j ≡ 0 → ⊥) → leb (loadAt loads i j 1) bound ≡ true
-        → found ≡ some (suc y) (λ (n : ℕ). bitOf (rangeAt rules 1 j) (y - n) && before x n) → free ≡ bitOf (allowedAt rules 1 j) y
+        → found ≡ anyBelow (suc y) (λ (n : ℕ). bitOf (rangeAt rules 1 j) (y - n) && before x n) → free ≡ bitOf (allowedAt rules 1 j) y
         → mask ≡ ltb (x + i) (y + j) → ((found && free) && mask) ≡ bottomPart rules loads bound i j before x y
     bottom-found found free mask some-pin light e f m =
         rw (lt-ltb 0 j (omega (arith, some-pin)), light, ← e, ← f, ← m) (swap found free mask)
@@ -105,7 +106,7 @@ module _ (rules loads : List ℕ) (bound i j : ℕ) (x y : ℕ) where
     pub pair-found :
         (rows : ℕ) (here reached free : Bool) → (i ≡ 0 → ⊥) → (j ≡ 0 → ⊥) → j ≤ x + i → leb (loadAt loads i j 2) bound ≡ true
         → bitOf (allowedAt rules 0 i) x ≡ true
-        → ((m : ℕ) → bitOf rows m ≡ some (suc x) (λ (n : ℕ). bitOf (rangeAt rules 0 i) (x - n) && diagonal n m))
+        → ((m : ℕ) → bitOf rows m ≡ anyBelow (suc x) (λ (n : ℕ). bitOf (rangeAt rules 0 i) (x - n) && diagonal n m))
         → here ≡ eqb y (x + i - j) → reached ≡ stepped rows (rangeAt rules 1 j) y → free ≡ bitOf (allowedAt rules 1 j) y
         → (here && (reached && free)) ≡ bothPart rules loads bound i j diagonal x y
     unfolding stepped
@@ -114,7 +115,7 @@ module _ (rules loads : List ℕ) (bound i j : ℕ) (x y : ℕ) where
         (ap₂ (λ (a b : Bool). a && b) (h ∙ same (eqb y (x + i - j)) refl)
         (and-swap reached free
         ∙ ap (λ (t : Bool). free && t)
-        (r ∙ some-cong (suc y) _ _ (λ m l. ap (λ (t : Bool). bitOf (rangeAt rules 1 j) (y - m) && t) (each m)))))
+        (r ∙ anyBelow-cong (suc y) _ _ (λ m l. ap (λ (t : Bool). bitOf (rangeAt rules 1 j) (y - m) && t) (each m)))))
       where
         same : (b : Bool) → eqb y (x + i - j) ≡ b → b ≡ eqb (y + j) (x + i)
         same true t = sym (eq-eqb (y + j) (x + i) (omega (arith, right, eqb-true y (x + i - j) t)))

@@ -11,9 +11,9 @@ use lib.ListN.{length, drop}
 use lib.Seq.{drop-drop}
 use lib.Dec.{leb, ltb, eqb}
 use borrow.Author.Tests.{ltb-true, ltb-false, eqb-true, eqb-false}
+use Rattle.channel.proofs.Below.{anyBelow-cong}
 use Rattle.bits.specs.Bits.{bitOf}
 use Rattle.bits.specs.Cells.{wordAt, putWord}
-use Rattle.bits.proofs.Laws.{some-cong}
 use Rattle.bits.proofs.Words.{length-put, drop-put, cell-put, word-put-same, word-put-other}
 use Rattle.table.specs.declared.Grid.{Grid}
 use Rattle.arrays.specs.Rules.{allowedAt, rangeAt}
@@ -51,7 +51,7 @@ module _ (rules loads : List ℕ) (bound i j x y : ℕ) where
   top-cong f g h =
       guarded i λ p.
       ap (λ (t : Bool). ltb (y + j) (x + i) && (leb (loadAt loads i j 0) bound && (bitOf (allowedAt rules 0 i) x && t)))
-      (some-cong (suc x) _ _ (λ n l. ap (λ (t : Bool). bitOf (rangeAt rules 0 i) (x - n) && t) (h p n (omega arith))))
+      (anyBelow-cong (suc x) _ _ (λ n l. ap (λ (t : Bool). bitOf (rangeAt rules 0 i) (x - n) && t) (h p n (omega arith))))
 
   bottom-cong :
       (f g : ℕ → ℕ → Bool) → (0 < j → (n : ℕ) → n ≤ y → f x n ≡ g x n)
@@ -59,7 +59,7 @@ module _ (rules loads : List ℕ) (bound i j x y : ℕ) where
   bottom-cong f g h =
       guarded j λ p.
       ap (λ (t : Bool). ltb (x + i) (y + j) && (leb (loadAt loads i j 1) bound && (bitOf (allowedAt rules 1 j) y && t)))
-      (some-cong (suc y) _ _ (λ n l. ap (λ (t : Bool). bitOf (rangeAt rules 1 j) (y - n) && t) (h p n (omega arith))))
+      (anyBelow-cong (suc y) _ _ (λ n l. ap (λ (t : Bool). bitOf (rangeAt rules 1 j) (y - n) && t) (h p n (omega arith))))
 
   both-cong :
       (f g : ℕ → ℕ → Bool) → (0 < i → 0 < j → (n m : ℕ) → n ≤ x → m ≤ y → f n m ≡ g n m)
@@ -70,9 +70,9 @@ module _ (rules loads : List ℕ) (bound i j x y : ℕ) where
       ap
       (λ (t : Bool). eqb (y + j) (x + i)
       && (leb (loadAt loads i j 2) bound && (bitOf (allowedAt rules 0 i) x && (bitOf (allowedAt rules 1 j) y && t))))
-      (some-cong (suc y) _ _
+      (anyBelow-cong (suc y) _ _
       (λ m l. ap (λ (t : Bool). bitOf (rangeAt rules 1 j) (y - m) && t)
-      (some-cong (suc x) _ _ (λ n k. ap (λ (t : Bool). bitOf (rangeAt rules 0 i) (x - n) && t) (h p q n m (omega arith) (omega arith))))))
+      (anyBelow-cong (suc x) _ _ (λ n k. ap (λ (t : Bool). bitOf (rangeAt rules 0 i) (x - n) && t) (h p q n m (omega arith) (omega arith))))))
 
   entry-cong :
       (a a' b b' d d' : ℕ → ℕ → Bool) → (0 < i → (n : ℕ) → n ≤ x → a n y ≡ a' n y) → (0 < j → (n : ℕ) → n ≤ y → b x n ≡ b' x n)

@@ -6,8 +6,10 @@ use mathlib.Core.Bool.{Bool, true, false, _&&_, _||_, and-false}
 use native.Mathlib.Omega.{arith}
 use native.Mathlib.Numerals.{add-one}
 use lib.Dec.{leb, ltb, eqb}
-use Rattle.bits.specs.Bits.{bitOf, some, inWord}
-use Rattle.bits.proofs.Laws.{bit-zero, some-bit, some-from, some-none, word-none, word-from}
+use Rattle.channel.specs.Below.{anyBelow}
+use Rattle.channel.proofs.Below.{anyBelow-from, anyBelow-none}
+use Rattle.bits.specs.Bits.{bitOf, inWord}
+use Rattle.bits.proofs.Laws.{bit-zero, some-bit, word-none, word-from}
 use borrow.Author.Tests.{ltb-true, ltb-false, lt-ltb, le-ltb, le-leb, lt-leb, eqb-true, eqb-false}
 
 -- the numbers k up to y of which f holds, where y is taken, and where it is not
@@ -51,33 +53,33 @@ module _ (f : ℕ → Bool) (y k : ℕ) where
 
 -- the rows m from low on of which f holds and in which some number of g m stands: none before low
 pub none-before :
-    (low : ℕ) (f : ℕ → Bool) (g : ℕ → ℕ → Bool) → some low (λ (m : ℕ). leb low m && (f m && inWord (g m))) ≡ false
-none-before low f g = some-none low _ (λ k l. rw (lt-leb low k l))
+    (low : ℕ) (f : ℕ → Bool) (g : ℕ → ℕ → Bool) → anyBelow low (λ (m : ℕ). leb low m && (f m && inWord (g m))) ≡ false
+none-before low f g = anyBelow-none low _ (λ k l. rw (lt-leb low k l))
 
 module _ (low x : ℕ) (f : ℕ → Bool) (g : ℕ → ℕ → Bool) where
   -- the row x has no such number, or f does not hold of it
   pub row-misses :
-      (w : ℕ) → w ≡ 0 → ((y : ℕ) → bitOf w y ≡ g x y) → some x (λ (m : ℕ). leb low m && (f m && inWord (g m))) ≡ false
-      → some (x + 1) (λ (m : ℕ). leb low m && (f m && inWord (g m))) ≡ false
+      (w : ℕ) → w ≡ 0 → ((y : ℕ) → bitOf w y ≡ g x y) → anyBelow x (λ (m : ℕ). leb low m && (f m && inWord (g m))) ≡ false
+      → anyBelow (x + 1) (λ (m : ℕ). leb low m && (f m && inWord (g m))) ≡ false
   row-misses w z e h = rw (add-one x, empty, and-false (f x), and-false (leb low x)) h
     where
       empty : inWord (g x) ≡ false
       empty = word-none (g x) (λ y l. sym (e y) ∙ ap (λ (v : ℕ). bitOf v y) z ∙ bit-zero y)
 
   pub row-skipped :
-      f x ≡ false → some x (λ (m : ℕ). leb low m && (f m && inWord (g m))) ≡ false
-      → some (x + 1) (λ (m : ℕ). leb low m && (f m && inWord (g m))) ≡ false
+      f x ≡ false → anyBelow x (λ (m : ℕ). leb low m && (f m && inWord (g m))) ≡ false
+      → anyBelow (x + 1) (λ (m : ℕ). leb low m && (f m && inWord (g m))) ≡ false
   row-skipped e h = rw (add-one x, e, and-false (leb low x)) h
 
 -- the row x has such a number
 pub row-meets :
     (low high x : ℕ) (f : ℕ → Bool) (g : ℕ → ℕ → Bool) → low ≤ x → x ≤ high → f x ≡ true → (w : ℕ) → w < 2 ^ 64 → (w ≡ 0 → ⊥)
-    → ((y : ℕ) → bitOf w y ≡ g x y) → true ≡ some (suc high) (λ (m : ℕ). leb low m && (f m && inWord (g m)))
+    → ((y : ℕ) → bitOf w y ≡ g x y) → true ≡ anyBelow (suc high) (λ (m : ℕ). leb low m && (f m && inWord (g m)))
 row-meets low high x f g from to e w small some-number bits =
     let (k, l, b) = some-bit w small some-number in
     sym
-    (some-from (suc high) (λ (m : ℕ). leb low m && (f m && inWord (g m))) x (omega arith)
+    (anyBelow-from (suc high) (λ (m : ℕ). leb low m && (f m && inWord (g m))) x (omega arith)
     (rw (le-leb low x from, e, word-from (g x) k l (sym (bits k) ∙ b))))
 
-pub none-meets : (f : ℕ → Bool) (x n : ℕ) → x ≡ n → some x f ≡ false → false ≡ some n f
-none-meets f x n e h = sym (ap (λ (k : ℕ). some k f) (sym e) ∙ h)
+pub none-meets : (f : ℕ → Bool) (x n : ℕ) → x ≡ n → anyBelow x f ≡ false → false ≡ anyBelow n f
+none-meets f x n e h = sym (ap (λ (k : ℕ). anyBelow k f) (sym e) ∙ h)

@@ -5,9 +5,10 @@ use Prim.Native.Nat.{ℕ, zero, suc, _+_, _-_, _*_}
 use mathlib.Core.List.{List}
 use mathlib.Core.Bool.{Bool, false, _&&_, _||_}
 use lib.Dec.{leb, ltb, eqb}
+use Rattle.channel.specs.Below.{anyBelow}
 use Rattle.arrays.specs.Rules.{rangeAt, allowedAt}
 use Rattle.arrays.specs.Loads.{loadAt}
-use Rattle.bits.specs.Bits.{bitOf, some}
+use Rattle.bits.specs.Bits.{bitOf}
 use Rattle.bits.specs.Cells.{wordAt}
 
 -- bit y of row x of the plane whose cells start at `base`
@@ -17,7 +18,7 @@ held work base x y = bitOf (wordAt work (base + 4 * x)) y
 -- one pin moves to x, the other stays at y: the load is within the bound, x is allowed, and some place before x is in range
 abbrev pub alone : ℕ → ℕ → ℕ → ℕ → (ℕ → ℕ → Bool) → ℕ → ℕ → Bool
 alone load bound allowed range less x y =
-    leb load bound && (bitOf allowed x && some (suc x) (λ (n : ℕ). bitOf range (x - n) && less n y))
+    leb load bound && (bitOf allowed x && anyBelow (suc x) (λ (n : ℕ). bitOf range (x - n) && less n y))
 
 -- no pin is placed
 abbrev pub startPart : ℕ → ℕ → ℕ → ℕ → Bool
@@ -45,9 +46,9 @@ module _ (rules loads : List ℕ) (bound i j : ℕ) where
       && (leb (loadAt loads i j 2) bound
       && (bitOf (allowedAt rules 0 i) x
       && (bitOf (allowedAt rules 1 j) y
-      && some (suc y)
+      && anyBelow (suc y)
       (λ (m : ℕ). bitOf (rangeAt rules 1 j) (y - m)
-      && some (suc x) (λ (n : ℕ). bitOf (rangeAt rules 0 i) (x - n) && diagonal n m)))))))
+      && anyBelow (suc x) (λ (n : ℕ). bitOf (rangeAt rules 0 i) (x - n) && diagonal n m)))))))
 
   -- one place, from the planes of one top pin less, one bottom pin less, and one of each less
   unfoldable pub entry : (ℕ → ℕ → Bool) → (ℕ → ℕ → Bool) → (ℕ → ℕ → Bool) → ℕ → ℕ → Bool

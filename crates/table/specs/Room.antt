@@ -7,9 +7,10 @@ use mathlib.Core.Bool.{Bool, _&&_}
 use mathlib.Core.Logic.{_⊎_}
 use lib.ListN.{length, getD, drop}
 use lib.Dec.{leb}
+use Rattle.channel.specs.Below.{anyBelow}
 use Rattle.arrays.specs.Rules.{ruleWords}
 use Rattle.arrays.specs.Loads.{loadBytes}
-use Rattle.bits.specs.Bits.{bitOf, some, inWord}
+use Rattle.bits.specs.Bits.{bitOf, inWord}
 use Rattle.table.specs.declared.Grid.{Grid}
 use Rattle.table.specs.declared.Place.{Place}
 use Rattle.table.specs.Entry.{held, cell}
@@ -69,4 +70,4 @@ pub record Filled (rules loads : List ℕ) (bound : ℕ) (g : Grid) (i j end : �
 -- some row from low to high of plane (i, j), whose step to next is in `by`, holds a number of the mask
 unfoldable pub meeting : List ℕ → Grid → ℕ → ℕ → ℕ → ℕ → ℕ → ℕ → ℕ → Bool
 meeting work g i j low high next by mask =
-    some (suc high) (λ (x : ℕ). leb low x && (bitOf by (next - x) && inWord (λ (y : ℕ). heldAt work g i j x y && bitOf mask y)))
+    anyBelow (suc high) (λ (x : ℕ). leb low x && (bitOf by (next - x) && inWord (λ (y : ℕ). heldAt work g i j x y && bitOf mask y)))

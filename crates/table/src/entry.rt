@@ -17,16 +17,17 @@ ghost use mathlib.Core.Path.{_≡_};
 ghost use mathlib.Core.Bool.{_&&_};
 ghost use lib.ListN.{length};
 ghost use lib.Dec.{leb};
+ghost use Rattle.channel.specs.Below.{anyBelow};
 ghost use Rattle.arrays.specs.Rules.{pins};
 ghost use Rattle.arrays.specs.Loads.{loadBytes, loadAt};
-ghost use Rattle.bits.specs.Bits.{bitOf, some};
+ghost use Rattle.bits.specs.Bits.{bitOf};
 ghost use Rattle.table.specs.Entry.{held, startPart, topPart, bottomPart, bothPart, entry};
 ghost use Rattle.table.specs.Room.{Room, Sides};
 
 // The union of the rows up to x of the plane at `base`, each row that is a step of `by` before x.
 pub fn rows(work: &[u16], base: usize, x: usize, by: u64) -> u64
     requires { ⌜ (base + 4 * x + 4 ≤ length (now work)) × (x < 64) ⌝ }
-    ensures { λ r. ⌜ ((y : ℕ) → bitOf r y ≡ some (suc x) (λ (n : ℕ). bitOf by (x - n) && held (now (work .entry)) base n y)) ⌝ }
+    ensures { λ r. ⌜ ((y : ℕ) → bitOf r y ≡ anyBelow (suc x) (λ (n : ℕ). bitOf by (x - n) && held (now (work .entry)) base n y)) ⌝ }
 {
     let mut found: u64 = 0;
     let mut n = 0;

@@ -9,12 +9,14 @@ use native.Mathlib.Nat.{le-refl}
 use lib.ListN.{set}
 use lib.Dec.{leb, ltb, eqb, leb·zero}
 use borrow.Author.Tests.{ltb-true, le-leb, lt-leb, lt-ltb, le-ltb, eqb-false}
-use Rattle.bits.specs.Bits.{bitOf, some}
-use Rattle.bits.proofs.Laws.{some-cong, word-cong}
+use Rattle.channel.specs.Below.{anyBelow}
+use Rattle.channel.proofs.Below.{anyBelow-cong}
+use Rattle.bits.specs.Bits.{bitOf}
+use Rattle.bits.proofs.Laws.{word-cong}
 use Rattle.table.specs.declared.Grid.{Grid}
 use Rattle.table.specs.Room.{heldAt, meeting}
 use Rattle.walk.specs.declared.Mark.{Mark}
-use Rattle.walk.specs.Walk.{stepsTo, standsAt, numberFits, lefts, rowFits, rowMeets, someLeft, someHere, emptyMeets, topMeets, emptyFits, topFits, bottomFits, chosen, hasTopPin, hasBottomPin, behind, written, walked}
+use Rattle.walk.specs.Walk.{stepsTo, standsAt, numberFits, lefts, rowFits, rowMeets, someLeft, someHere, emptyMeets, topMeets, emptyFits, topFits, bottomFits, choiceIn, hasTopPin, hasBottomPin, behind, written, walkColumns}
 use Rattle.walk.specs.Walking.{Walks}
 
 -- a letter with a pin has one to place
@@ -69,7 +71,7 @@ module _ (work rules : List ℕ) (g : Grid) (p : ℕ) (m : Mark) (w : ℕ) where
   unfolding meeting
   rows-left high next by h eh en es =
       rw (le-leb (m .i) (m .c - 1) h, eh, en, es)
-      (some-cong (suc (min (m .c - 1 - m .i) (g .rows - 1)))
+      (anyBelow-cong (suc (min (m .c - 1 - m .i) (g .rows - 1)))
       (λ (x : ℕ). leb 0 x && rowMeets work rules g p m (bitOf w) x) (rowMeets work rules g p m (bitOf w)) (λ x l. rw (leb·zero x)))
 
   pub no-row : m .i ≡ 0 → false ≡ topMeets work rules g p m w
@@ -90,7 +92,7 @@ module _ (work rules : List ℕ) (g : Grid) (p : ℕ) (m : Mark) (w : ℕ) where
       rw (lt-ltb 0 (m .i) (omega (arith, some-pin)), le-leb (m .i) (m .c) left, lt-ltb (m .c - m .i) (g .rows) inside, en, es)
       (only (m .c - m .i) (rowMeets work rules g p m (bitOf w)))
     where
-      none : (n r : ℕ) (f : ℕ → Bool) → n ≤ r → some n (λ (x : ℕ). leb r x && f x) ≡ false
+      none : (n r : ℕ) (f : ℕ → Bool) → n ≤ r → anyBelow n (λ (x : ℕ). leb r x && f x) ≡ false
       none zero r f h = refl
       none (suc n) r f h = rw (lt-leb r n h) (none n r f (omega arith))
 
@@ -98,7 +100,7 @@ module _ (work rules : List ℕ) (g : Grid) (p : ℕ) (m : Mark) (w : ℕ) where
       or-false true = refl
       or-false false = refl
 
-      only : (r : ℕ) (f : ℕ → Bool) → some (suc r) (λ (x : ℕ). leb r x && f x) ≡ f r
+      only : (r : ℕ) (f : ℕ → Bool) → anyBelow (suc r) (λ (x : ℕ). leb r x && f x) ≡ f r
       only r f = rw (le-leb r r (omega arith), none r r f (omega arith)) (or-false (f r))
 
 -- the questions by a word are the questions by the set that it holds
@@ -111,7 +113,7 @@ module _ (work rules : List ℕ) (g : Grid) (p : ℕ) (m : Mark) (w : ℕ) (f : 
   pub left-same : emptyMeets work rules g p m w ≡ someLeft work rules g p m f
   left-same =
       ap (λ (t : Bool). leb (m .i) (m .c - 1) && t)
-      (some-cong (suc (min (m .c - 1 - m .i) (g .rows - 1))) (rowMeets work rules g p m (bitOf w)) (rowMeets work rules g p m f) (λ x l. row-same x))
+      (anyBelow-cong (suc (min (m .c - 1 - m .i) (g .rows - 1))) (rowMeets work rules g p m (bitOf w)) (rowMeets work rules g p m f) (λ x l. row-same x))
 
   pub here-same : topMeets work rules g p m w ≡ someHere work rules g p m f
   here-same =
@@ -135,18 +137,18 @@ module _ (work rules : List ℕ) (g : Grid) (p q : ℕ) (m : Mark) where
       rw (lt-ltb 0 (m .j) (omega (arith, some-pin)), le-leb (m .j) (m .c) room, near) e
 
   -- the letter
-  pub chose-empty : emptyFits work rules g p q m ≡ true → 0 ≡ chosen work rules g p q m
-  unfolding chosen
+  pub chose-empty : emptyFits work rules g p q m ≡ true → 0 ≡ choiceIn work rules g p q m
+  unfolding choiceIn
   chose-empty e = rw e
 
-  pub chose-top : emptyFits work rules g p q m ≡ false → topFits work rules g p q m ≡ true → 1 ≡ chosen work rules g p q m
-  unfolding chosen
+  pub chose-top : emptyFits work rules g p q m ≡ false → topFits work rules g p q m ≡ true → 1 ≡ choiceIn work rules g p q m
+  unfolding choiceIn
   chose-top e t = rw (e, t)
 
   pub chose-other :
       (b : Bool) → emptyFits work rules g p q m ≡ false → topFits work rules g p q m ≡ false → bottomFits work rules g p q m ≡ b
-      → cond b 2 3 ≡ chosen work rules g p q m
-  unfolding chosen
+      → cond b 2 3 ≡ choiceIn work rules g p q m
+  unfolding choiceIn
   chose-other b e t f = rw (e, t, f)
 
 -- the walk goes on with what it needs
@@ -174,18 +176,18 @@ walks-from p q l h =
     record { c = h; i = le-refl p; j = le-refl q; top = λ n. absurd (omega arith); bottom = λ n. absurd (omega arith) }
 
 -- one letter of the walk
-pub walked-more :
+pub walk-more :
     (work rules : List ℕ) (g : Grid) (p q left letter : ℕ) (m m' : Mark) (columns columns' : List ℕ) → 0 < left
-    → letter ≡ chosen work rules g p q m → m' ≡ behind letter m → columns' ≡ written p letter m columns
-    → walked work rules g p q (left - 1) m' columns' ≡ walked work rules g p q left m columns
-unfolding walked
-walked-more work rules g p q (suc left) letter m m' columns columns' h e em ec =
+    → letter ≡ choiceIn work rules g p q m → m' ≡ behind letter m → columns' ≡ written p letter m columns
+    → walkColumns work rules g p q (left - 1) m' columns' ≡ walkColumns work rules g p q left m columns
+unfolding walkColumns
+walk-more work rules g p q (suc left) letter m m' columns columns' h e em ec =
     let less : suc left - 1 ≡ left = omega arith in
     rw (em, ec, e, less)
 
-pub walked-none :
+pub walk-none :
     (work rules : List ℕ) (g : Grid) (p q left : ℕ) (m : Mark) (columns : List ℕ) → left ≤ 0
-    → columns ≡ walked work rules g p q left m columns
-unfolding walked
-walked-none work rules g p q zero m columns h = refl
-walked-none work rules g p q (suc left) m columns h = absurd (omega arith)
+    → columns ≡ walkColumns work rules g p q left m columns
+unfolding walkColumns
+walk-none work rules g p q zero m columns h = refl
+walk-none work rules g p q (suc left) m columns h = absurd (omega arith)

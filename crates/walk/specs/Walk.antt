@@ -6,7 +6,8 @@ use mathlib.Core.List.{List}
 use mathlib.Core.Bool.{Bool, cond, _&&_, _||_}
 use lib.ListN.{set}
 use lib.Dec.{leb, ltb, eqb}
-use Rattle.bits.specs.Bits.{bitOf, some, inWord}
+use Rattle.channel.specs.Below.{anyBelow}
+use Rattle.bits.specs.Bits.{bitOf, inWord}
 use Rattle.table.specs.declared.Grid.{Grid}
 use Rattle.arrays.specs.Rules.{rangeAt}
 use Rattle.table.specs.Room.{heldAt}
@@ -44,7 +45,7 @@ module _ (work rules : List ℕ) (g : Grid) (p : ℕ) (m : Mark) where
 
   -- some row left of the column does; the row of the column does
   abbrev pub someLeft : (ℕ → Bool) → Bool
-  someLeft f = leb (m .i) (m .c - 1) && some (suc (min (m .c - 1 - m .i) (g .rows - 1))) (rowMeets f)
+  someLeft f = leb (m .i) (m .c - 1) && anyBelow (suc (min (m .c - 1 - m .i) (g .rows - 1))) (rowMeets f)
 
   abbrev pub someHere : (ℕ → Bool) → Bool
   someHere f = ltb 0 (m .i) && (leb (m .i) (m .c) && (ltb (m .c - m .i) (g .rows) && rowMeets f (m .c - m .i)))
@@ -71,8 +72,8 @@ module _ (work rules : List ℕ) (g : Grid) (p q : ℕ) (m : Mark) where
       && (numberFits rules q m (m .c - m .j) && someLeft work rules g p m (λ (y : ℕ). eqb y (m .c - m .j))))
 
   -- 0 empty, 1 top pin only, 2 bottom pin only, 3 both
-  unfoldable pub chosen : ℕ
-  chosen = cond emptyFits 0 (cond topFits 1 (cond bottomFits 2 3))
+  unfoldable pub choiceIn : ℕ
+  choiceIn = cond emptyFits 0 (cond topFits 1 (cond bottomFits 2 3))
 
 -- the walk goes on behind a letter; a pin that is not there is not placed
 abbrev pub hasTopPin : ℕ → ℕ → Bool
@@ -98,8 +99,8 @@ written p letter m columns =
     cond (hasBottomPin letter (m .j)) (set tops (p + (m .j - 1)) (m .c)) tops
 
 -- the whole walk over the c columns that are left
-unfoldable pub walked : List ℕ → List ℕ → Grid → ℕ → ℕ → ℕ → Mark → List ℕ → List ℕ
-walked work rules g p q zero m columns = columns
-walked work rules g p q (suc c) m columns =
-    let letter : ℕ = chosen work rules g p q m in
-    walked work rules g p q c (behind letter m) (written p letter m columns)
+unfoldable pub walkColumns : List ℕ → List ℕ → Grid → ℕ → ℕ → ℕ → Mark → List ℕ → List ℕ
+walkColumns work rules g p q zero m columns = columns
+walkColumns work rules g p q (suc c) m columns =
+    let letter : ℕ = choiceIn work rules g p q m in
+    walkColumns work rules g p q c (behind letter m) (written p letter m columns)

@@ -11,7 +11,7 @@ ghost use mathlib.Core.Bool.{true, cond};
 ghost use lib.ListN.{length, set};
 ghost use Rattle.arrays.specs.Rules.{pins, ruleWords};
 ghost use Rattle.bits.specs.Bits.{bitOf};
-ghost use Rattle.walk.specs.Walk.{stepsTo, standsAt, lefts, emptyMeets, topMeets, bottomFits, chosen, hasTopPin, hasBottomPin, behind, written, walked};
+ghost use Rattle.walk.specs.Walk.{stepsTo, standsAt, lefts, emptyMeets, topMeets, bottomFits, choiceIn, hasTopPin, hasBottomPin, behind, written, walkColumns};
 ghost use Rattle.walk.specs.Walking.{Lies, Walks};
 
 // How far the walk has come: c columns are still to be lettered, i top and j bottom pins to be placed, and the pins
@@ -149,7 +149,7 @@ fn bottom_fits(work: &[u16], rules: &[u64], grid: Grid, p: usize, q: usize, m: M
 // The smallest letter after which the rest can still be placed.
 fn choose(work: &[u16], rules: &[u64], grid: Grid, p: usize, q: usize, m: Mark) -> u8
     requires { ⌜ Lies (now work) (now rules) grid p q × Walks p q m × (0 < m .c) ⌝ }
-    ensures { λ r. ⌜ r ≡ chosen (now (work .entry)) (now (rules .entry)) grid p q m ⌝ }
+    ensures { λ r. ⌜ r ≡ choiceIn (now (work .entry)) (now (rules .entry)) grid p q m ⌝ }
 {
     let lefts = left_numbers(rules, q, m);
     if empty_fits(work, rules, grid, p, q, m, lefts) {
@@ -243,7 +243,7 @@ pub fn walk(
     columns: &mut [u8],
 )
     requires { ⌜ Lies (now work) (now rules) grid p q × (l ≤ 64) × (p + q ≤ length (now columns)) ⌝ }
-    ensures { λ _. ⌜ now (columns .exit) ≡ walked (now (work .entry)) (now (rules .entry)) grid p q l (record { c = l; i = p; j = q; top = 0; bottom = 0 }) (now (columns .entry)) ⌝ }
+    ensures { λ _. ⌜ now (columns .exit) ≡ walkColumns (now (work .entry)) (now (rules .entry)) grid p q l (record { c = l; i = p; j = q; top = 0; bottom = 0 }) (now (columns .entry)) ⌝ }
 {
     let mut m = Mark {
         c: l,

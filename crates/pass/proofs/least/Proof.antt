@@ -7,7 +7,7 @@ use native.Mathlib.Omega.{arith}
 use lib.ListN.{length, drop}
 use borrow.Author.Needs.{needs}
 use Rattle.table.specs.Room.{SameGaps}
-use Rattle.pass.specs.Pass.{placeable, tableEnd}
+use Rattle.pass.specs.Pass.{feasibleIn, tableEnd}
 use Rattle.pass.proofs.Passes.{Between, between-start, between-more, between-end, between-falls}
 use Rattle.pass.proofs.Kept.{given-kept}
 use Rattle.pass.proofs.least.Statement.{statement}
@@ -15,7 +15,7 @@ use Rattle.pass.proofs.least.Tie as tie
 
 abbrev Inv-loop : tie.InvT-loop
 Inv-loop work₀ rules loads plan failed low₀ high₀ ahead₀ work low high ahead =
-    Between (placeable rules loads plan) low high
+    Between (feasibleIn rules loads plan) low high
     × (length work ≡ length work₀)
     × (drop (tableEnd plan) work ≡ drop (tableEnd plan) work₀)
     × SameGaps (plan .grid) work₀ work
@@ -64,7 +64,7 @@ loop-again c =
     let a = start .args in
     let o = at-loop .loop in (
       rw (c .before .pick2 .ensures, c .before .before .pick .ensures)
-          (between-more (placeable (a .rules .now) (a .loads .now) (a .plan)) (start .pre .3) (o .low) (o .high) _ _
+          (between-more (feasibleIn (a .rules .now) (a .loads .now) (a .plan)) (start .pre .3) (o .low) (o .high) _ _
           (at-next .next-bound .ensures .0) (at-next .next-bound .ensures .1) (at-try-bound .try-bound .ensures .answer) (o .inv .0)),
       at-try-bound .try-bound .ensures .table .kept ∙ o .inv .1,
       at-try-bound .try-bound .ensures .table .behind ∙ o .inv .2,

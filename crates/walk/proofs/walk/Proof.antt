@@ -6,9 +6,9 @@ use mathlib.Core.Path.{_≡_, refl, _∙_, sym, ap}
 use native.Mathlib.Omega.{arith}
 use lib.ListN.{length}
 use Rattle.walk.specs.declared.Mark.{Mark}
-use Rattle.walk.specs.Walk.{walked}
+use Rattle.walk.specs.Walk.{walkColumns}
 use Rattle.walk.specs.Walking.{Walks}
-use Rattle.walk.proofs.Choices.{walks-on, walks-from, walked-more, walked-none}
+use Rattle.walk.proofs.Choices.{walks-on, walks-from, walk-more, walk-none}
 use Rattle.walk.proofs.walk.Statement.{statement}
 use Rattle.walk.proofs.walk.Tie as tie
 
@@ -17,7 +17,7 @@ Inv-loop work rules grid p q l columns₀ m₀ left₀ columns m left =
     (left ≡ m .c)
     × Walks p q m
     × (length columns ≡ length columns₀)
-    × (walked work rules grid p q left m columns ≡ walked work rules grid p q l (record { c = l; i = p; j = q; top = 0; bottom = 0 }) columns₀)
+    × (walkColumns work rules grid p q left m columns ≡ walkColumns work rules grid p q l (record { c = l; i = p; j = q; top = 0; bottom = 0 }) columns₀)
 
 abbrev μ-loop : tie.MeasureT-loop
 μ-loop work rules grid p q l columns₀ m₀ left₀ columns m left = left
@@ -56,7 +56,7 @@ loop-again c =
       rw (c .go .ensures) (walks-on (a .p) (a .q) (at-choose .choose .result) (o .m)
           (omega (arith, at-loop-test .loop-test .taken, o .inv .0)) (o .inv .1)),
       at-put .put .kept .0 ∙ o .inv .2,
-      walked-more (a .work .now) (a .rules .now) (a .grid) (a .p) (a .q) (o .left) (at-choose .choose .result) (o .m) _ (o .columns) _
+      walk-more (a .work .now) (a .rules .now) (a .grid) (a .p) (a .q) (o .left) (at-choose .choose .result) (o .m) _ (o .columns) _
           (at-loop-test .loop-test .taken) (at-choose .choose .ensures) (c .go .ensures) (at-put .put .ensures)
           ∙ o .inv .3,
     )
@@ -68,7 +68,7 @@ returns : tie.Need-returns Inv-loop μ-loop
 returns c =
     let a = c .before .before .before .before .before .args in
     let o = c .before .loop in
-    walked-none (a .work .now) (a .rules .now) (a .grid) (a .p) (a .q) (o .left) (o .m) (o .columns) (c .loop-test .left) ∙ o .inv .3
+    walk-none (a .work .now) (a .rules .now) (a .grid) (a .p) (a .q) (o .left) (o .m) (o .columns) (c .loop-test .left) ∙ o .inv .3
 
 pub walk-spec : {M : Type 1} → statement M
 walk-spec =

@@ -37,27 +37,27 @@ scan-holds : tie.Need-scan-holds Inv-loop μ-loop Inv-scan μ-scan
 scan-holds c = (omega arith, refl, refl)
 
 -- 14 of each side of the list
-kept : tie.After-of-side2 Inv-loop μ-loop Inv-scan μ-scan → ℕ → Bool
+kept : tie.After-side-at2 Inv-loop μ-loop Inv-scan μ-scan → ℕ → Bool
 kept d =
     let a = d .before .before .before .before .before .before .before .before .args in
     keptAt (a .top .now) (a .bottom .now) (a .tops .now) (a .bottoms .now)
 
 -- of the present side it is said by its section and its columns, which are as many as its terminals
-here : (d : tie.After-of-side2 Inv-loop μ-loop Inv-scan μ-scan)
-    → kept d (d .before .before .before .scan .side) ≡ sideKept (terminalsIn (d .before .of-side .result .now)) (d .of-side2 .result .now)
+here : (d : tie.After-side-at2 Inv-loop μ-loop Inv-scan μ-scan)
+    → kept d (d .before .before .before .scan .side) ≡ sideKept (terminalsIn (d .before .side-at .result .now)) (d .side-at2 .result .now)
 unfolding kept
-here d = sym (ap₂ (λ (part columns : List ℕ). sideKept (terminalsIn part) columns) (d .before .of-side .ensures) (d .of-side2 .ensures))
+here d = sym (ap₂ (λ (part columns : List ℕ). sideKept (terminalsIn part) columns) (d .before .side-at .ensures) (d .side-at2 .ensures))
 
-same : (d : tie.After-of-side2 Inv-loop μ-loop Inv-scan μ-scan)
-    → length (d .of-side2 .result .now) ≡ length (terminalsIn (d .before .of-side .result .now))
+same : (d : tie.After-side-at2 Inv-loop μ-loop Inv-scan μ-scan)
+    → length (d .side-at2 .result .now) ≡ length (terminalsIn (d .before .side-at .result .now))
 same d =
     let s = d .before .before .before .before .before .before .before .before in
-    rw (d .of-side2 .ensures, d .before .of-side .ensures)
+    rw (d .side-at2 .ensures, d .before .side-at .ensures)
     (side-same (s .args .top .now) (s .args .bottom .now) (s .args .tops .now) (s .args .bottoms .now) (s .pre .0) (s .pre .1)
     (d .before .before .before .scan .side))
 
 loop-holds : tie.Need-loop-holds Inv-loop μ-loop Inv-scan μ-scan
-loop-holds c = (omega arith, refl, kept-first (terminalsIn (c .before .of-side .result .now)) (c .of-side2 .result .now))
+loop-holds c = (omega arith, refl, kept-first (terminalsIn (c .before .side-at .result .now)) (c .side-at2 .result .now))
 
 shared-slice-read-in-range-2 :
     tie.Need-shared-slice-read-in-range-2 Inv-loop μ-loop Inv-scan μ-scan
@@ -65,14 +65,14 @@ shared-slice-read-in-range-2 c = omega arith
 
 -- what is said of the side at a place: the distance's answer, then the places behind it
 turn : (d : tie.After-in-range Inv-loop μ-loop Inv-scan μ-scan)
-    → let part = d .before .before .before .before .before .before .before .of-side .result .now in
-    let columns = d .before .before .before .before .before .before .of-side2 .result .now in
+    → let part = d .before .before .before .before .before .before .before .side-at .result .now in
+    let columns = d .before .before .before .before .before .before .side-at2 .result .now in
     let i = d .before .before .before .before .before .loop .i in
     sideKept (terminalsIn part) columns
     ≡ (d .in-range .result && laterKept (drop (i + 1) (terminalsIn part)) (getD columns (i + 1 - 1) 0) (drop (i + 1) columns))
 turn d =
-    let part : List ℕ = d .before .before .before .before .before .before .before .of-side .result .now in
-    let columns : List ℕ = d .before .before .before .before .before .before .of-side2 .result .now in
+    let part : List ℕ = d .before .before .before .before .before .before .before .side-at .result .now in
+    let columns : List ℕ = d .before .before .before .before .before .before .side-at2 .result .now in
     let l = d .before .before .before .before .before .loop in
     l .inv .2
     ∙ kept-more part columns (same (d .before .before .before .before .before .before)) (l .i) (d .before .before .before .before .loop-test .taken)
@@ -93,7 +93,7 @@ scan-again c =
     let d = c .before .before in
     let s = d .before .before .before .scan in
     let l = c .before .loop in
-    let past : length (terminalsIn (d .before .of-side .result .now)) ≤ l .i = omega (arith, same d) in (
+    let past : length (terminalsIn (d .before .side-at .result .now)) ≤ l .i = omega (arith, same d) in (
       omega arith,
       l .inv .1 ∙ s .inv .1,
       s .inv .2

@@ -4,11 +4,11 @@ use Prim.Native.Nat.{_+_, _-_, _*_, _≤_}
 use lib.ListN.{length, take}
 use native.Mathlib.Omega.{arith}
 use Rattle.sheet.specs.Parts.{terminalsIn}
-use Rattle.sheet.specs.Walk.{visits}
+use Rattle.sheet.specs.Visits.{visits}
 use Rattle.text.specs.Writing.{Wrote}
 use Rattle.text.proofs.Writes.{wrote-nothing, after, kept, same-text}
 use Rattle.report.specs.Text.{lines}
-use Rattle.report.proofs.Walked.{next-line, all-lines}
+use Rattle.report.proofs.Lines.{next-line, all-lines}
 use borrow.Author.Needs.{needs}
 use Rattle.report.proofs.lines.put_side.Statement.{statement}
 use Rattle.report.proofs.lines.put_side.Tie as tie

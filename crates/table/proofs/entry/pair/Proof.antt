@@ -4,7 +4,8 @@ use Prim.Native.Nat.{ℕ, suc, _-_, _+_}
 use mathlib.Core.Path.{_∙_, sym, ap}
 use mathlib.Core.Bool.{Bool, _&&_}
 use native.Mathlib.Omega.{arith}
-use Rattle.bits.specs.Bits.{bitOf, some, stepped}
+use Rattle.channel.specs.Below.{anyBelow}
+use Rattle.bits.specs.Bits.{bitOf, stepped}
 use Rattle.bits.proofs.Laws.{bit-zero}
 use Rattle.table.specs.Entry.{held}
 use Rattle.table.proofs.Parts.{no-top-pair, no-bottom-pair, pair-apart, pair-heavy, pair-barred, pair-found}
@@ -86,7 +87,7 @@ returns-5 c =
     (at-if2 .if2 .left) (at-if3 .if3 .left)
     (sym (at-within .within .ensures) ∙ at-if5 .if5 .taken)
     (ap (λ (w : ℕ). bitOf w (a .place .x)) (sym (at-allowed .allowed .ensures)) ∙ sym (at-bit .bit .ensures) ∙ at-if6 .if6 .taken)
-    (λ m. at-rows .rows .ensures m ∙ ap (λ (w : ℕ). some (suc (a .place .x))
+    (λ m. at-rows .rows .ensures m ∙ ap (λ (w : ℕ). anyBelow (suc (a .place .x))
     (λ (n : ℕ). bitOf w (a .place .x - n) && held (a .work .now) (a .place .at - (a .grid .stride + a .grid .size)) n m))
     (at-range .range .ensures))
     (at-single .single .ensures y h)

@@ -6,15 +6,17 @@ use mathlib.Core.Bool.{Bool, _&&_, _||_}
 use mathlib.Core.Logic.{⊎-elim}
 use native.Mathlib.Omega.{arith}
 use borrow.Author.Needs.{needs}
-use Rattle.bits.specs.Bits.{bitOf, some}
-use Rattle.bits.proofs.Laws.{bit-zero, some-taken, some-left}
+use Rattle.channel.specs.Below.{anyBelow}
+use Rattle.channel.proofs.Below.{anyBelow-taken, anyBelow-left}
+use Rattle.bits.specs.Bits.{bitOf}
+use Rattle.bits.proofs.Laws.{bit-zero}
 use Rattle.table.specs.Entry.{held}
 use Rattle.table.proofs.entry.rows.Statement.{statement}
 use Rattle.table.proofs.entry.rows.Tie as tie
 
 abbrev Inv-loop : tie.InvT-loop
 Inv-loop work base x by found₀ n₀ found n =
-    (n ≤ x + 1) × ((y : ℕ) → bitOf found y ≡ some n (λ (m : ℕ). bitOf by (x - m) && held work base m y))
+    (n ≤ x + 1) × ((y : ℕ) → bitOf found y ≡ anyBelow n (λ (m : ℕ). bitOf by (x - m) && held work base m y))
 
 abbrev μ-loop : tie.MeasureT-loop
 μ-loop work base x by found₀ n₀ found n = x + 1 - n
@@ -34,9 +36,9 @@ loop-again c =
           ap (λ (v : ℕ). bitOf v y) (w .3)
           ∙ w .2 .ensures y
           ∙ ap₂ (λ (p q : Bool). p || q) (ap (λ (v : ℕ). bitOf v y) (w .1 .ensures)) (l .inv .1 y)
-          ∙ sym (some-taken (l .n) step (from y) (sym (c .before .bit .ensures) ∙ w .0 .taken)))
+          ∙ sym (anyBelow-taken (l .n) step (from y) (sym (c .before .bit .ensures) ∙ w .0 .taken)))
           (λ w y.
-          ap (λ (v : ℕ). bitOf v y) (w .1) ∙ l .inv .1 y ∙ sym (some-left (l .n) step (from y) (sym (c .before .bit .ensures) ∙ w .0 .left)))
+          ap (λ (v : ℕ). bitOf v y) (w .1) ∙ l .inv .1 y ∙ sym (anyBelow-left (l .n) step (from y) (sym (c .before .bit .ensures) ∙ w .0 .left)))
           (c .if1 .came),
     )
 
@@ -45,7 +47,7 @@ returns c =
     let a = c .before .before .before .args in
     let l = c .before .loop in
     let end : l .n ≡ suc (a .x) = omega arith in
-    λ y. l .inv .1 y ∙ ap (λ (k : ℕ). some k (λ (m : ℕ). bitOf (a .by) (a .x - m) && held (a .work .now) (a .base) m y)) end
+    λ y. l .inv .1 y ∙ ap (λ (k : ℕ). anyBelow k (λ (m : ℕ). bitOf (a .by) (a .x - m) && held (a .work .now) (a .base) m y)) end
 
 pub rows-spec : {M : Type 1} → statement M
 rows-spec =

@@ -4,7 +4,8 @@ use Prim.Native.Nat.{ℕ, suc, _-_}
 use mathlib.Core.Path.{_∙_, sym, ap}
 use mathlib.Core.Bool.{_&&_}
 use native.Mathlib.Omega.{arith}
-use Rattle.bits.specs.Bits.{bitOf, some}
+use Rattle.channel.specs.Below.{anyBelow}
+use Rattle.bits.specs.Bits.{bitOf}
 use Rattle.bits.proofs.Laws.{bit-zero}
 use Rattle.table.specs.Entry.{held}
 use Rattle.table.proofs.Parts.{no-top, top-left, top-heavy, top-barred, top-found}
@@ -56,7 +57,7 @@ returns-3 c =
     (held (a .work .now) (a .place .at - a .grid .stride)) _ _ (at-if1 .if1 .left) (at-if2 .if2 .left)
     (sym (at-within .within .ensures) ∙ at-if3 .if3 .taken)
     (ap (λ (w : ℕ). bitOf w (a .place .x)) (sym (at-allowed .allowed .ensures)) ∙ sym (at-bit .bit .ensures) ∙ at-if4 .if4 .taken)
-    (c .before .before .rows .ensures y ∙ ap (λ (w : ℕ). some (suc (a .place .x))
+    (c .before .before .rows .ensures y ∙ ap (λ (w : ℕ). anyBelow (suc (a .place .x))
     (λ (n : ℕ). bitOf w (a .place .x - n) && held (a .work .now) (a .place .at - a .grid .stride) n y)) (at-range .range .ensures))
     (c .before .below .ensures y h)
 

@@ -8,7 +8,8 @@ use native.Mathlib.Omega.{arith}
 use borrow.Author.Needs.{needs}
 use lib.ListN.{length}
 use lib.Dec.{leb}
-use Rattle.bits.specs.Bits.{bitOf, some, inWord}
+use Rattle.channel.specs.Below.{anyBelow}
+use Rattle.bits.specs.Bits.{bitOf, inWord}
 use Rattle.table.specs.Entry.{held}
 use Rattle.table.specs.Room.{baseOf, heldAt, meeting}
 use Rattle.table.proofs.Planes.{row-room}
@@ -18,7 +19,7 @@ use Rattle.table.proofs.query.meets.Tie as tie
 
 abbrev Inv-loop : tie.InvT-loop
 Inv-loop work i j low high next by mask base x₀ x =
-    (low ≤ x) × (x ≤ high + 1) × (some x
+    (low ≤ x) × (x ≤ high + 1) × (anyBelow x
     (λ (m : ℕ). leb low m && (bitOf by (next - m) && inWord (λ (y : ℕ). held work base m y && bitOf mask y))) ≡ false)
 
 abbrev μ-loop : tie.MeasureT-loop

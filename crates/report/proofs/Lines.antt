@@ -21,11 +21,11 @@ use Rattle.terminal.specs.Terminal.{recordOf}
 use Rattle.soundness.specs.Read.{Read, sheetOf, read}
 use Rattle.soundness.specs.Read.Read.{sound, refused}
 use Rattle.sheet.specs.Parts.{shapeOf, nth, entryOf, openedOf, bytesOf, terminalsIn, entryIn}
-use Rattle.sheet.specs.Walk.{visits}
+use Rattle.sheet.specs.Visits.{visits}
 use Rattle.soundness.proofs.Laws.{read-checked}
-use Rattle.sheet.proofs.Laws.{opened-refused, shape-read, entry-in, walk-of, Opens, opens}
+use Rattle.sheet.proofs.Laws.{opened-refused, shape-read, entry-in, visits-of, length-visits, Opens, opens}
 use Rattle.report.specs.Text.{line, lines}
-use Rattle.report.specs.Writing.{entryLine, walkAs, walkOf}
+use Rattle.report.specs.Writing.{entryLine, visitsAs, visitsOf}
 
 -- a side's terminals from place m on, of which k have their lines, and the next
 one-more :
@@ -71,16 +71,12 @@ lines-append (v ∷ vs) us [] ds h = absurd (omega arith)
 lines-append (v ∷ vs) us (c ∷ cs) ds h =
     ap (λ (rest : List ℕ). line v c ++ rest) (lines-append vs us cs ds (omega arith)) ∙ sym (append-assoc (line v c) _ _)
 
-length-visits : (side : Side) (k : ℕ) (ts : List Terminal) → length (visits side k ts) ≡ length ts
-length-visits side k [] = refl
-length-visits side k (t ∷ ts) = ap suc (length-visits side (k + 1) ts)
-
 -- a sheet that is refused has no lines
-pub refused-lines : (b : List ℕ) (why : Refusal) (cs : List ℕ) → openedOf b ≡ opened.Refused why → [] ≡ lines (walkOf b) cs
-unfolding walkOf
+pub refused-lines : (b : List ℕ) (why : Refusal) (cs : List ℕ) → openedOf b ≡ opened.Refused why → [] ≡ lines (visitsOf b) cs
+unfolding visitsOf
 refused-lines b why cs e = by-read (read b) refl
   where
-    by-read : (r : Read) → read b ≡ r → [] ≡ lines (walkAs r) cs
+    by-read : (r : Read) → read b ≡ r → [] ≡ lines (visitsAs r) cs
     by-read (sound s) q =
         let (checks, same) = read-checked b s q in
         let refuses = opened-refused b why e in
@@ -114,13 +110,13 @@ module _ (b : List ℕ) (layout : Layout) (opening : openedOf b ≡ opened.Sound
         (tops bottoms : List ℕ) → tops ≡ bytesOf b (layout .top) → bottoms ≡ bytesOf b (layout .bottom)
         → lines (visits Top 1 (terminalsIn tops)) (take (n .top) columns)
         ++ lines (visits Bottom 1 (terminalsIn bottoms)) (take (n .pins - n .top) (drop (n .top) columns))
-        ≡ lines (walkOf b) (take (n .pins) columns)
-    unfolding walkOf
+        ≡ lines (visitsOf b) (take (n .pins) columns)
+    unfolding visitsOf
     side-lines tops bottoms first second =
         let s : Sheet = sheetOf b in
         let few : n .top ≤ length columns = omega (arith, pins-count) in
         let whole : n .top + (n .pins - n .top) ≡ n .pins = omega (arith, pins-count) in
-        rw (ap terminalsIn first ∙ laws .top, ap terminalsIn second ∙ laws .bottom, laws .reads, walk-of s)
+        rw (ap terminalsIn first ∙ laws .top, ap terminalsIn second ∙ laws .bottom, laws .reads, visits-of s)
         (sym
         (lines-append (visits Top 1 (s .top)) (visits Bottom 1 (s .bottom)) (take (n .top) columns) _
         (length-visits Top 1 (s .top) ∙ sym p-count ∙ sym (length-take-le (n .top) columns few)))

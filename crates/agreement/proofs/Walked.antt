@@ -1,4 +1,4 @@
--- Over a filled table, the walk writes the columns of the model's trace.
+-- Over a filled table, the walk writes the columns of the model's walk.
 -- Assumes nothing.
 use Prim.Native.Nat.{ℕ, zero, suc, pred, _+_, _-_, _≤_, _<_}
 use mathlib.Core.Path.{_≡_, refl, sym, _∙_, ap}
@@ -19,15 +19,15 @@ use Rattle.channel.specs.Cut.{count, before}
 use Rattle.channel.proofs.Pins.{length-columns}
 use Rattle.table.specs.Room.{Filled}
 use Rattle.reach.specs.Reach.{feasible}
-use Rattle.reach.specs.Greedy.{choice, traceFrom, trace}
+use Rattle.reach.specs.Greedy.{choice, walkWordFrom, walkWord}
 use Rattle.reach.proofs.Rightmost.{lastIn}
 use Rattle.reach.proofs.Completed.{SideDone, Done, done-rest}
-use Rattle.reach.proofs.Whole.{trace-whole}
+use Rattle.reach.proofs.Whole.{walk-whole}
 use Rattle.pass.specs.declared.Plan.{Plan}
-use Rattle.walk.specs.Walk.{chosen, hasTopPin, hasBottomPin, behind, written, walked}
+use Rattle.walk.specs.Walk.{choiceIn, hasTopPin, hasBottomPin, behind, written, walkColumns}
 use Rattle.agreement.specs.Ready.{Ready}
 use Rattle.agreement.proofs.Reached.{cell-reach}
-use Rattle.agreement.proofs.Letters.{OnSide, Reaches, chosen-choice}
+use Rattle.agreement.proofs.Letters.{OnSide, Reaches, choice-in}
 
 -- a number that is put in, if h, behind the place of a list may be put in before that list or after it
 sets-later :
@@ -150,17 +150,17 @@ module _
     abbrev Puts : ℕ → ℕ → ℕ → ℕ → ℕ → List Letter → Type 0
     Puts c i j x y w =
         (columns : List ℕ) → OnSide (n .p) (n .l) c i x → OnSide (n .q) (n .l) c j y → Done s d c i j x y w
-        → walked work rules (n .grid) (n .p) (n .q) c (record { c = c; i = i; j = j; top = x; bottom = y }) columns
+        → walkColumns work rules (n .grid) (n .p) (n .q) c (record { c = c; i = i; j = j; top = x; bottom = y }) columns
         ≡ sets (sets columns 0 (columnsWith hasTop w)) (n .p) (columnsWith hasBottom w)
 
     -- so it does from one column more, where it chooses the word's first letter
     puts-more :
         (c i j x y : ℕ) (a : Letter) (w : List Letter)
         → (OnSide (n .p) (n .l) (suc c) i x → OnSide (n .q) (n .l) (suc c) j y
-        → chosen work rules (n .grid) (n .p) (n .q) (record { c = suc c; i = i; j = j; top = x; bottom = y }) ≡ rank a)
+        → choiceIn work rules (n .grid) (n .p) (n .q) (record { c = suc c; i = i; j = j; top = x; bottom = y }) ≡ rank a)
         → Puts c (before (hasTop a) i) (before (hasBottom a) j) (lastIn (hasTop a) c x) (lastIn (hasBottom a) c y) w
         → Puts (suc c) i j x y (a ∷ w)
-    unfolding walked
+    unfolding walkColumns
     puts-more c i j x y a w letter puts columns tops bottoms done =
         let t : hasTop a ≡ true → 0 < i = first-pin (s .top) hasTop i x a w (done .top) in
         let b : hasBottom a ≡ true → 0 < j = first-pin (s .bottom) hasBottom j y a w (done .bottom) in
@@ -170,39 +170,39 @@ module _
         (puts _ (on-side (hasTop a) (n .p) (n .l) c i x tops t) (on-side (hasBottom a) (n .q) (n .l) c j y bottoms b) rest
         ∙ written-sets (n .p) c i j x y a w columns (rest .size) (rest .top .pins) (rest .bottom .pins) (tops .few) t b)
 
-    -- so it puts in the columns of the trace
-    puts-trace : (c i j x y : ℕ) → Puts c i j x y (traceFrom s d c i j x y)
-    unfolding walked traceFrom
-    puts-trace zero i j x y = λ columns tops bottoms done. refl
-    puts-trace (suc c) i j x y =
-        puts-more c i j x y (choice s d c i j x y) _ (chosen-choice s rules loads n ready d work cells c i j x y) (puts-trace c _ _ _ _)
+    -- so it puts in the columns of the word
+    puts-walk : (c i j x y : ℕ) → Puts c i j x y (walkWordFrom s d c i j x y)
+    unfolding walkColumns walkWordFrom
+    puts-walk zero i j x y = λ columns tops bottoms done. refl
+    puts-walk (suc c) i j x y =
+        puts-more c i j x y (choice s d c i j x y) _ (choice-in s rules loads n ready d work cells c i j x y) (puts-walk c _ _ _ _)
 
--- the trace starts with all columns and all pins
-trace-from :
+-- the walk starts with all columns and all pins
+walk-from :
     (s : Sheet) (d l p q : ℕ) → l ≡ s .columns → p ≡ length (s .top) → q ≡ length (s .bottom) → feasible s d ≡ true
-    → (traceFrom s d l p q 0 0 ≡ trace s d) × Done s d l p q 0 0 (trace s d)
-unfolding trace
-trace-from s d l p q el ep eq f = rw (el, ep, eq) (refl, trace-whole s d f)
+    → (walkWordFrom s d l p q 0 0 ≡ walkWord s d) × Done s d l p q 0 0 (walkWord s d)
+unfolding walkWord
+walk-from s d l p q el ep eq f = rw (el, ep, eq) (refl, walk-whole s d f)
 
 -- and so does a side of the walk
 on-start : (n l : ℕ) → OnSide n l l n 0
 on-start n l = record { few = le-refl n; room = omega arith; last = λ h. absurd (omega arith) }
 
--- over a filled table the walk writes the columns of the trace, and leaves what stands behind them
-pub walked-trace :
+-- over a filled table the walk writes the columns of the model's word, and leaves what stands behind them
+pub walk-columns :
     (s : Sheet) (rules loads : List ℕ) (n : Plan) → Ready s rules loads n → (d : ℕ) → feasible s d ≡ true
     → (work old : List ℕ) (e : ℕ) → Filled rules loads d (n .grid) (n .p + 1) 0 e old work
     → (columns : List ℕ) → n .p + n .q ≤ length columns
-    → walked work rules (n .grid) (n .p) (n .q) (n .l) (record { c = n .l; i = n .p; j = n .q; top = 0; bottom = 0 }) columns
-    ≡ columnsOf (trace s d) ++ drop (n .p + n .q) columns
+    → walkColumns work rules (n .grid) (n .p) (n .q) (n .l) (record { c = n .l; i = n .p; j = n .q; top = 0; bottom = 0 }) columns
+    ≡ columnsOf (walkWord s d) ++ drop (n .p + n .q) columns
 unfolding columnsOf
-walked-trace s rules loads n ready d f work old e filled columns room =
-    let (same, done) = trace-from s d (n .l) (n .p) (n .q) (ready .l) (ready .p) (ready .q) f in
-    let puts : Puts s rules loads n ready d work cells (n .l) (n .p) (n .q) 0 0 (trace s d) =
-    rw same at (puts-trace s rules loads n ready d work cells (n .l) (n .p) (n .q) 0 0) in
+walk-columns s rules loads n ready d f work old e filled columns room =
+    let (same, done) = walk-from s d (n .l) (n .p) (n .q) (ready .l) (ready .p) (ready .q) f in
+    let puts : Puts s rules loads n ready d work cells (n .l) (n .p) (n .q) 0 0 (walkWord s d) =
+    rw same at (puts-walk s rules loads n ready d work cells (n .l) (n .p) (n .q) 0 0) in
     puts columns (on-start (n .p) (n .l)) (on-start (n .q) (n .l)) done
-    ∙ both-sets (columnsWith hasTop (trace s d)) (columnsWith hasBottom (trace s d)) columns (n .p) (n .q)
-    (length-columns hasTop (trace s d) ∙ done .top .pins) (length-columns hasBottom (trace s d) ∙ done .bottom .pins) room
+    ∙ both-sets (columnsWith hasTop (walkWord s d)) (columnsWith hasBottom (walkWord s d)) columns (n .p) (n .q)
+    (length-columns hasTop (walkWord s d) ∙ done .top .pins) (length-columns hasBottom (walkWord s d) ∙ done .bottom .pins) room
   where
     cells : Reaches s d n work
     cells i j x y hi hj hx hy =

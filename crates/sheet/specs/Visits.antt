@@ -1,4 +1,4 @@
--- The walk through a sheet's terminals (document 01, "The sheet": "steps through its terminals, top then bottom, each once
+-- The steps through a sheet's terminals (document 01, "The sheet": "steps through its terminals, top then bottom, each once
 -- with its side, place and record, and then says it has finished; over a refused sheet it says so at once").
 -- Assumes nothing.
 use Prim.Native.Nat.{ℕ, zero, suc, _+_}
@@ -21,16 +21,16 @@ abbrev pub visits : Side → ℕ → List Terminal → List Visit
 visits side k [] = []
 visits side k (t ∷ ts) = record { side = side; place = k; terminal = recordOf t } ∷ visits side (k + 1) ts
 
--- the whole walk
-unfoldable pub walk : Sheet → List Visit
-walk s = visits Top 1 (s .top) ++ visits Bottom 1 (s .bottom)
+-- all terminals of a sheet, top then bottom
+unfoldable pub allVisits : Sheet → List Visit
+allVisits s = visits Top 1 (s .top) ++ visits Bottom 1 (s .bottom)
 
 -- the answer of a step whose record is known, with the cursor past it
 abbrev pub visitOf : Side → ℕ → Cursor → Entry → Step
 visitOf side place next (Found r) = At (record { side = side; place = place; terminal = r }) next
 visitOf side place next Nothing = Finished
 
--- the k-th of the walk, from 0, with the cursor past it; then the end
+-- the k-th of them, from 0, with the cursor past it; then the end
 abbrev pub stepIn : List Visit → ℕ → Cursor → Step
 stepIn [] k next = Finished
 stepIn (v ∷ vs) zero next = At v next
@@ -40,7 +40,7 @@ abbrev pub start : Cursor
 start = record { passed = 0 }
 
 abbrev pub stepAs : ℕ → Read → Step
-stepAs passed (sound s) = stepIn (walk s) passed (record { passed = passed + 1 })
+stepAs passed (sound s) = stepIn (allVisits s) passed (record { passed = passed + 1 })
 stepAs passed (refused n) = Finished
 
 unfoldable pub stepOf : List ℕ → Cursor → Step

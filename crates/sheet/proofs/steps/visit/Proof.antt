@@ -1,10 +1,10 @@
 -- `sheet::visit` meets its contract: the answer of `record_at` picks the case.
 -- Assumes nothing.
 use mathlib.Core.Path.{_∙_, sym, ap}
-use Rattle.sheet.specs.Walk.{visitOf}
+use Rattle.sheet.specs.Visits.{visitOf}
 use borrow.Author.Needs.{needs}
-use Rattle.sheet.proofs.walk.visit.Statement.{statement}
-use Rattle.sheet.proofs.walk.visit.Tie as tie
+use Rattle.sheet.proofs.steps.visit.Statement.{statement}
+use Rattle.sheet.proofs.steps.visit.Tie as tie
 
 returns : tie.Need-returns
 returns c =

@@ -1,4 +1,4 @@
-// A walk through a sheet's terminals, top then bottom.
+// The steps through a sheet's terminals, top then bottom.
 use crate::Cursor;
 use crate::Entry;
 use crate::Step;
@@ -8,7 +8,7 @@ use crate::parts::shape_of;
 use soundness::Side;
 ghost use mathlib.Core.Path.{_≡_};
 ghost use Rattle.sheet.specs.Parts.{entryAt};
-ghost use Rattle.sheet.specs.Walk.{start, stepOf, visitOf};
+ghost use Rattle.sheet.specs.Visits.{start, stepOf, visitOf};
 
 impl Cursor {
     // The cursor before the first terminal.
