@@ -13,7 +13,7 @@ use Rattle.channel.proofs.Below.{anyBelow-from, anyBelow-to}
 use Rattle.channel.specs.Sheet.{Sheet}
 use Rattle.bits.specs.Bits.{inWord}
 use Rattle.bits.proofs.Laws.{same-test}
-use Rattle.table.specs.Entry.{cell}
+use Rattle.entry.specs.Entry.{cell}
 use Rattle.reach.specs.Reach.{reach, feasible}
 use Rattle.reach.proofs.Bounds.{Held, reach-held, feasible-mono}
 use Rattle.pass.specs.declared.Plan.{Plan}

@@ -16,7 +16,7 @@ use Rattle.channel.specs.Word.{Letter, rank, hasTop, hasBottom}
 use Rattle.channel.specs.Word.Letter.{empty, top, bottom}
 use Rattle.bits.specs.Bits.{bitOf, inWord}
 use Rattle.bits.proofs.Laws.{bit-full, word-from, same-test}
-use Rattle.table.specs.Room.{heldAt}
+use Rattle.table.specs.Planes.{heldAt}
 use Rattle.reach.specs.Reach.{near, reach}
 use Rattle.reach.specs.Greedy.{next, lastAt, smallestOf, letterFits, choice}
 use Rattle.reach.proofs.Bounds.{Held, reach-held}

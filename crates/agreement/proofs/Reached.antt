@@ -14,7 +14,7 @@ use borrow.Author.Tests.{ltb-true, ltb-false, lt-ltb, le-ltb, eq-eqb, ne-eqb}
 use Rattle.channel.specs.Sheet.{Sheet}
 use Rattle.arrays.specs.Rules.{rangeAt, allowedAt}
 use Rattle.arrays.specs.Loads.{loadAt}
-use Rattle.table.specs.Entry.{alone, startPart, bothPart, entry, bottomsOnly, withTops, cell}
+use Rattle.entry.specs.Entry.{alone, startPart, bothPart, entry, bottomsOnly, withTops, cell}
 use Rattle.reach.specs.Reach.{reach}
 use Rattle.reach.proofs.Reaches.{reach-none, reach-top, reach-bottom, reach-both, reach-no-top, reach-no-bottom, reach-only-bottoms, reach-only-tops}
 use Rattle.reach.proofs.Bounds.{reach-held}

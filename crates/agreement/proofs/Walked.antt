@@ -17,7 +17,7 @@ use Rattle.channel.specs.Word.{Letter, rank, hasTop, hasBottom, columnsWith, co
 use Rattle.channel.specs.Word.Letter.{empty, top, bottom, both}
 use Rattle.channel.specs.Cut.{count, before}
 use Rattle.channel.proofs.Pins.{length-columns}
-use Rattle.table.specs.Room.{Filled}
+use Rattle.table.specs.Planes.{Filled}
 use Rattle.reach.specs.Reach.{feasible}
 use Rattle.reach.specs.Greedy.{choice, walkWordFrom, walkWord}
 use Rattle.reach.proofs.Rightmost.{lastIn}

@@ -10,7 +10,7 @@ use Rattle.channel.specs.Sheet.{Sheet, Sound}
 use Rattle.channel.specs.Cut.{load}
 use Rattle.channel.specs.Word.Letter.{top, bottom, both}
 use Rattle.arrays.specs.Loads.{loadAt}
-use Rattle.table.specs.Room.{Measures}
+use Rattle.table.specs.Planes.{Measures}
 use Rattle.pass.specs.declared.Plan.{Plan}
 use Rattle.rules.specs.Sides.{SideRules}
 

@@ -16,8 +16,8 @@ use Rattle.channel.proofs.Below.{anyBelow-none}
 use Rattle.bits.specs.Bits.{bitOf}
 use Rattle.arrays.specs.Rules.{allowedAt, rangeAt}
 use Rattle.arrays.specs.Loads.{loadAt}
-use Rattle.table.specs.Entry.{topPart, bottomPart, bothPart, entry, alone, bottomsOnly, withTops, cell}
-use Rattle.table.proofs.Parts.{pair-heavy}
+use Rattle.entry.specs.Entry.{topPart, bottomPart, bothPart, entry, alone, bottomsOnly, withTops, cell}
+use Rattle.entry.proofs.Parts.{pair-heavy}
 use Rattle.bound.specs.LowerBound.{topLast, bottomLast, bothLast, lowest, bottomsLowest, topsLowest, lowerBound}
 
 one-less : (n : ℕ) → suc n - 1 ≡ n

@@ -1,4 +1,3 @@
 pub mod Scans
-pub mod Sums
 pub mod Measures
 pub mod Returned

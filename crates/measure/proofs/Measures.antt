@@ -1,19 +1,16 @@
 -- A measurement, from what the sheet layer, the two tests and the counting answer.
 -- Assumes nothing.
-use Prim.Native.Nat.{ℕ, suc, _+_, _-_, _≤_}
+use Prim.Native.Nat.{ℕ, _+_, _-_, _≤_}
 use mathlib.Core.Path.{_≡_, refl, sym, _∙_, ap}
-use mathlib.Core.List.{List, [], _∷_, _++_}
+use mathlib.Core.List.{List}
 use mathlib.Core.Bool.{Bool, true, false, not, _&&_}
 use native.Mathlib.Omega.{arith}
-use lib.ListN.{length, getD, take, drop, length-drop}
+use lib.ListN.{length, take, drop, length-drop}
 use lib.Seq.{take-all}
 use borrow.Author.Tests.{eq-eqb, ne-eqb, not-true, not-false}
 use Rattle.channel.specs.Sheet.{Terminal, Sheet, sheetWith}
 use Rattle.channel.specs.Assignment.{topColumns, bottomColumns}
-use Rattle.channel.specs.Density.{Pin, pins, maximumTo, density}
-use Rattle.channel.specs.Cut.{nets}
-use Rattle.channel.specs.Spans.{Below, sumLast}
-use Rattle.channel.proofs.Spans.{density-spans}
+use Rattle.channel.specs.Density.{density}
 use Rattle.terminal.specs.declared.Refusal.{Refusal}
 use Rattle.soundness.specs.Read.{sheetOf}
 use Rattle.sheet.specs.declared.Layout.{Layout}
@@ -25,28 +22,7 @@ use Rattle.sheet.proofs.Laws.{opened-refused, Opens, opens}
 use Rattle.measure.specs.declared.Measured.{Measured}
 use Rattle.measure.specs.declared.Measured.the-variants.{Density, Sheet as Unsound, Count, Allowed, Distance}
 use Rattle.measure.specs.Answer.{sideAllowed, allAllowed, sideKept, distancesKept, unless, listMeasured, sheetMeasured, measuredOf}
-use Rattle.spans.specs.Spans.{pinsOf}
-use Rattle.measure.specs.Inner.{Laid, netSpans, countedAt}
-
--- the pins of terminals are those of their nets
-pins-nets : (ts : List Terminal) (cs : List ℕ) → pins ts cs ≡ pinsOf (nets ts) cs
-pins-nets [] cs = refl
-pins-nets (t ∷ ts) [] = refl
-pins-nets (t ∷ ts) (c ∷ cs) = ap (λ (ps : List Pin). record { net = t .net; column = c } ∷ ps) (pins-nets ts cs)
-
--- a list of bytes has no column above 255
-pub bytes-below : (cs : List ℕ) → ((i : ℕ) → getD cs i 0 ≤ 255) → Below 255 cs
-bytes-below [] h = tt
-bytes-below (c ∷ cs) h = (h 0, bytes-below cs (λ i. h (suc i)))
-
--- the density is the greatest of the counts
-pub density-counted :
-    (l : ℕ) (ts us : List Terminal) (cs : List ℕ) → Below 255 cs
-    → density (sheetWith l ts us) cs ≡ maximumTo l (countedAt (nets (ts ++ us)) cs)
-unfolding countedAt
-density-counted l ts us cs h =
-    density-spans (sheetWith l ts us) cs h
-    ∙ ap (λ (ps : List Pin). maximumTo l (λ (c : ℕ). sumLast (netSpans ps c) (nets (ts ++ us)))) (pins-nets (ts ++ us) cs)
+use Rattle.density.specs.Counted.{Laid}
 
 -- the columns of a list on each side, as parts of the list
 abbrev topPart : List ℕ → ℕ → List ℕ

@@ -1,43 +1,9 @@
--- What the functions inside a measurement answer.
+-- What the scan for 14 chooses between.
 -- Assumes nothing.
-use Prim.Native.Nat.{ℕ, _+_, _≤_, _<_}
-use mathlib.Core.Path.{_≡_}
-use mathlib.Core.List.{List}
-use mathlib.Core.Bool.{Bool, cond, _&&_}
-use lib.ListN.{length, getD}
-use lib.Dec.{leb, eqb}
-use Rattle.channel.specs.Density.{Pin}
-use Rattle.channel.specs.Spans.{leftmost, rightmost, spans, sumLast}
-use Rattle.sheet.specs.Parts.{terminalsIn}
-use Rattle.spans.specs.Spans.{pinsOf}
-
--- a list that is p+q long beside the two sections of a sound sheet of length l
-pub record Laid (top bottom columns : List ℕ) (p l : ℕ) : Type 0 where
-  pub tops : p ≡ length (terminalsIn top)
-  pub long : length columns ≡ p + length (terminalsIn bottom)
-  pub few : length columns ≤ 128
-  pub short : l ≤ 64
+use Prim.Native.Nat.{ℕ}
+use mathlib.Core.Bool.{cond}
+use lib.Dec.{eqb}
 
 -- of two values, that of a side: 0 is the top
 abbrev pub sideAt {ℓ} : {A : Type ℓ} → A → A → ℕ → A
 sideAt top bottom side = cond (eqb side 0) top bottom
-
--- whether net n crosses column c, by its leftmost and rightmost pins
-abbrev pub netSpans : List Pin → ℕ → ℕ → Bool
-netSpans ps c n = spans (leftmost n ps) (rightmost n ps) c
-
--- how many of a list's nets cross column c, each counted where it occurs last
-unfoldable pub countedAt : List ℕ → List ℕ → ℕ → ℕ
-countedAt ns cs c = sumLast (netSpans (pinsOf ns cs) c) ns
-
--- column c is one of the columns l to r
-abbrev pub within : ℕ → ℕ → ℕ → Bool
-within l r c = leb l c && leb c r
-
--- 1 is added to the counts of those columns that f holds of, and the others are kept
-abbrev pub Added : (ℕ → Bool) → List ℕ → List ℕ → Type 0
-Added f before after = (c : ℕ) → getD after c 0 ≡ getD before c 0 + cond (f c) 1 0
-
--- no count is so large that 1 more would not fit
-abbrev pub Small : List ℕ → Type 0
-Small counts = (c : ℕ) → getD counts c 0 < 65535

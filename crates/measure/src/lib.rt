@@ -1,12 +1,11 @@
 // The density of a given column list. The sheet is read only through the sheet layer.
 
 mod answer;
-mod count;
 mod rules;
 
 pub use answer::density_of;
 pub use answer::number_of;
-use count::list_density;
+use density::list_density;
 use rules::all_allowed;
 use rules::out_of_range;
 use sheet::Opened;
@@ -14,7 +13,7 @@ use terminal::Refusal;
 ghost use mathlib.Core.Path.{_≡_};
 ghost use Rattle.sheet.specs.Parts.{sheetIn};
 ghost use Rattle.measure.specs.Answer.{measuredOf, listMeasured};
-ghost use Rattle.measure.specs.Inner.{Laid};
+ghost use Rattle.density.specs.Counted.{Laid};
 
 // The answer of a measurement; `number_of` and `density_of` give its number and its density.
 pub enum Measured {

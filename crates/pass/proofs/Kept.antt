@@ -4,8 +4,8 @@ use Prim.Native.Nat.{ℕ}
 use mathlib.Core.Path.{_≡_, _∙_}
 use mathlib.Core.List.{List}
 use lib.ListN.{length, drop}
-use Rattle.table.specs.declared.Grid.{Grid}
-use Rattle.table.specs.Room.{SameGaps, Filled}
+use Rattle.entry.specs.declared.Grid.{Grid}
+use Rattle.table.specs.Planes.{SameGaps, Filled}
 use Rattle.table.proofs.Planes.{fits-kept}
 use Rattle.pass.specs.declared.Plan.{Plan}
 use Rattle.walk.specs.Walking.{Lies}

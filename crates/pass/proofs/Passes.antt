@@ -13,8 +13,8 @@ use Rattle.channel.proofs.Below.{anyBelow-cong, anyBelow-none}
 use Rattle.channel.specs.Density.{mostDensity}
 use Rattle.bits.specs.Bits.{bitOf, inWord}
 use Rattle.bits.proofs.Laws.{word-cong, word-none, bit-full}
-use Rattle.table.specs.Entry.{cell}
-use Rattle.table.specs.Room.{Filled, heldAt, meeting}
+use Rattle.entry.specs.Entry.{cell}
+use Rattle.table.specs.Planes.{Filled, heldAt, meeting}
 use Rattle.bound.specs.LowerBound.{lowerBound}
 use Rattle.bound.proofs.LowerBound.{cell-none}
 use Rattle.pass.specs.declared.Plan.{Plan}

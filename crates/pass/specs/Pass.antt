@@ -9,8 +9,9 @@ use lib.Dec.{ltb}
 use Rattle.channel.specs.Below.{anyBelow}
 use Rattle.channel.specs.Density.{mostDensity}
 use Rattle.bits.specs.Bits.{inWord}
-use Rattle.table.specs.Entry.{cell}
-use Rattle.table.specs.Room.{Sides, SameGaps, Filled}
+use Rattle.entry.specs.Entry.{cell}
+use Rattle.table.specs.Planes.{SameGaps, Filled}
+use Rattle.entry.specs.Room.{Sides}
 use Rattle.pass.specs.declared.Plan.{Plan}
 use Rattle.pass.specs.declared.Outcome.{Outcome}
 use Rattle.pass.specs.declared.Outcome.the-variants as outcome

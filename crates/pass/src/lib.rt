@@ -1,7 +1,7 @@
 // Passes over the table: whether all pins can be placed under a bound, and the least such bound.
 use bits::below;
 use bound::lower_bound;
-use table::Grid;
+use entry::Grid;
 use table::fill;
 use table::meets;
 use walk::walk;

@@ -17,7 +17,7 @@ use Rattle.search.specs.declared.Searched.the-variants as searched
 use Rattle.search.specs.Answer.{numberOf, densityOf, Searches}
 use Rattle.search.proofs.Found.{columns-found, Finds, finds, zero-found}
 use Rattle.text.specs.Writing.{Wrote}
-use Rattle.report.specs.Text.{lines}
+use Rattle.lines.specs.Text.{lines}
 use Rattle.report.specs.Printed.{refusal, headed, result, answered, searchText, printed, Prints}
 use Rattle.report.specs.Writing.{visitsOf}
 

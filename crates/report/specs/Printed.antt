@@ -2,7 +2,7 @@
 -- Assumes nothing.
 use Prim.Native.Nat.{ℕ}
 use mathlib.Core.Path.{_≡_}
-use mathlib.Core.List.{List, _++_}
+use mathlib.Core.List.{List, [], _∷_, _++_}
 use mathlib.Core.Bool.{cond}
 use lib.ListN.{length, drop}
 use lib.Dec.{ltb}
@@ -14,7 +14,14 @@ use Rattle.sheet.specs.Visits.{allVisits}
 use Rattle.search.specs.declared.Searched.{Searched}
 use Rattle.search.specs.declared.Searched.the-variants as searched
 use Rattle.search.specs.Answer.{searchedOf, numberOf}
-use Rattle.report.specs.Text.{field, newline, densityName, refusedName, lines}
+use Rattle.lines.specs.Text.{field, newline, lines}
+
+-- the names: "density ", "refused "
+abbrev pub densityName : List ℕ
+densityName = 100 ∷ 101 ∷ 110 ∷ 115 ∷ 105 ∷ 116 ∷ 121 ∷ 32 ∷ []
+
+abbrev pub refusedName : List ℕ
+refusedName = 114 ∷ 101 ∷ 102 ∷ 117 ∷ 115 ∷ 101 ∷ 100 ∷ 32 ∷ []
 
 -- "the single line `refused N`"
 abbrev pub refusal : ℕ → List ℕ

@@ -1,6 +1,5 @@
 // The text that the program prints, as functions on slices.
-mod lines;
-
+use lines::DIGITS;
 use lines::put_side;
 use sheet::Layout;
 use sheet::Opened;
@@ -13,11 +12,8 @@ ghost use lib.ListN.{length, take};
 ghost use Rattle.sheet.specs.Parts.{shapeOf, openedOf};
 ghost use Rattle.text.specs.Writing.{Wrote};
 ghost use Rattle.report.specs.Printed.{refusal, headed, Prints};
-ghost use Rattle.report.specs.Text.{lines};
+ghost use Rattle.lines.specs.Text.{lines};
 ghost use Rattle.report.specs.Writing.{visitsOf};
-
-// Numbers are printed with so many digits at most.
-pub const DIGITS: usize = 5;
 
 // Room for every text: the line of the density, and 128 lines of at most 28 bytes.
 pub const ROOM: usize = 4096;

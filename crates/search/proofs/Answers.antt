@@ -22,8 +22,9 @@ use Rattle.search.specs.declared.Searched.{Searched}
 use Rattle.search.specs.declared.Searched.the-variants as searched
 use Rattle.pass.specs.declared.Outcome.{Outcome}
 use Rattle.pass.specs.declared.Outcome.the-variants as outcome
-use Rattle.search.specs.Answer.{pinsNeeded, cellsNeeded, answerAs, answerIn, answerIf, searchedOf, withColumns, columnsIf, columnsAfter, cleared, workIf, workAfter, Searches}
-use Rattle.search.specs.Solved.{Asked, outcomeOf, Solved}
+use Rattle.search.specs.Answer.{pinsNeeded, cellsNeeded, answerAs, answerIn, answerIf, searchedOf, columnsIf, columnsAfter, workIf, workAfter, Searches}
+use Rattle.solve.specs.Buffers.{withColumns, cleared}
+use Rattle.solve.specs.Solved.{Asked, outcomeOf, Solved}
 
 module _ (b columns work : List ℕ) where
   -- the buffers go by the answer

@@ -1,4 +1,3 @@
-pub mod Solving
 pub mod Answers
 pub mod Found
 pub mod Returned

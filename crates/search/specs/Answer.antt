@@ -2,9 +2,9 @@
 -- Assumes nothing.
 use Prim.Native.Nat.{ℕ, _+_}
 use mathlib.Core.Path.{_≡_}
-use mathlib.Core.List.{List, _++_}
+use mathlib.Core.List.{List}
 use mathlib.Core.Bool.{cond}
-use lib.ListN.{length, drop, replicate}
+use lib.ListN.{length}
 use lib.Dec.{ltb}
 use Rattle.channel.specs.Sheet.{Sheet}
 use Rattle.channel.specs.Best.{Found, best}
@@ -15,6 +15,7 @@ use Rattle.soundness.specs.declared.Checked.the-variants.{Sound, Refused}
 use Rattle.soundness.specs.Check.{checkOf}
 use Rattle.soundness.specs.Read.{sheetOf}
 use Rattle.sheet.specs.Parts.{cellsOf}
+use Rattle.solve.specs.Buffers.{withColumns, cleared}
 use Rattle.search.specs.declared.Searched.{Searched}
 use Rattle.search.specs.declared.Searched.the-variants as searched
 
@@ -43,11 +44,6 @@ answerIf (Refused why) s columns cells = searched.Sheet why
 unfoldable pub searchedOf : List ℕ → ℕ → ℕ → Searched
 searchedOf bytes columns cells = answerIf (checkOf bytes) (sheetOf bytes) columns cells
 
--- "On success the first p+q bytes hold the columns and the rest is unchanged"
-abbrev pub withColumns : Found → List ℕ → List ℕ
-withColumns none old = old
-withColumns (found d cs) old = cs ++ drop (length cs) old
-
 abbrev pub columnsIf : Searched → Sheet → List ℕ → List ℕ
 columnsIf (searched.Found d) s old = withColumns (best s) old
 columnsIf (searched.Sheet why) s old = old
@@ -61,9 +57,6 @@ columnsAfter bytes cells old = columnsIf (searchedOf bytes (length old) cells) (
 
 -- "On success and on 11, the first (p+1)(q+1)(L+1)² work cells are 0 and the rest unchanged. On other refusals the work buffer
 -- is unchanged"
-abbrev pub cleared : ℕ → List ℕ → List ℕ
-cleared n old = replicate n 0 ++ drop n old
-
 abbrev pub workIf : Searched → Sheet → List ℕ → List ℕ
 workIf (searched.Found d) s old = cleared (cellsNeeded s) old
 workIf (searched.Sheet why) s old = old

@@ -1,4 +1,3 @@
 pub mod Answer
-pub mod Solved
 pub mod Returned
 pub mod Pair

@@ -12,7 +12,8 @@ use Rattle.channel.specs.Assignment.{assignment?}
 use Rattle.channel.specs.Best.{IsBest}
 use Rattle.soundness.specs.Read.{read}
 use Rattle.soundness.specs.Read.Read.{sound, refused}
-use Rattle.search.specs.Answer.{pinsNeeded, cellsNeeded, cleared}
+use Rattle.search.specs.Answer.{pinsNeeded, cellsNeeded}
+use Rattle.solve.specs.Buffers.{cleared}
 
 -- refused with number n: "Each refusal carries density 0", "nothing written"
 pub record Refuses (n number density : ℕ) (columns work columns' work' : List ℕ) : Type 0 where

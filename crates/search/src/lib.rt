@@ -1,6 +1,5 @@
 // The search for the best assignment of a sheet.
 mod answer;
-mod solve;
 
 pub use answer::density_of;
 pub use answer::number_of;

@@ -1,7 +1,7 @@
 // The sheet layer: the parts of a sound sheet, and the steps through its terminals.
 
 mod parts;
-mod steps;
+mod visits;
 
 pub use parts::count_in;
 pub use parts::open;

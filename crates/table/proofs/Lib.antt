@@ -1,3 +1,2 @@
 pub mod Unions
-pub mod Parts
 pub mod Planes

@@ -13,13 +13,14 @@ use lib.Dec.{leb, ltb, eqb}
 use borrow.Author.Tests.{ltb-true, ltb-false, eqb-true, eqb-false}
 use Rattle.channel.proofs.Below.{anyBelow-cong}
 use Rattle.bits.specs.Bits.{bitOf}
-use Rattle.bits.specs.Cells.{wordAt, putWord}
-use Rattle.bits.proofs.Words.{length-put, drop-put, cell-put, word-put-same, word-put-other}
-use Rattle.table.specs.declared.Grid.{Grid}
+use Rattle.cells.specs.Cells.{wordAt, putWord}
+use Rattle.cells.proofs.Words.{length-put, drop-put, cell-put, word-put-same, word-put-other}
+use Rattle.entry.specs.declared.Grid.{Grid}
 use Rattle.arrays.specs.Rules.{allowedAt, rangeAt}
 use Rattle.arrays.specs.Loads.{loadAt}
-use Rattle.table.specs.Entry.{held, startPart, topPart, bottomPart, bothPart, entry, bottomsOnly, withTops, cell}
-use Rattle.table.specs.Room.{Measures, Room, Earlier, SameGaps, Filled, Fits, baseOf}
+use Rattle.entry.specs.Entry.{held, startPart, topPart, bottomPart, bothPart, entry, bottomsOnly, withTops, cell}
+use Rattle.table.specs.Planes.{Measures, Earlier, SameGaps, Filled, Fits, baseOf}
+use Rattle.entry.specs.Room.{Room}
 
 -- the products of the places
 next-product : (n m : ℕ) → (n + 1) * m ≡ n * m + m

@@ -1,12 +1,13 @@
 // Filling the table, plane by plane.
-use crate::Grid;
-use crate::Place;
-use crate::entry::word;
-use bits::write_word;
+use entry::Grid;
+use entry::Place;
+use entry::word;
+use cells::write_word;
 ghost use Prim.Native.Nat.{_+_, _*_, _≤_, _<_};
 ghost use mathlib.Core.Path.{_≡_};
 ghost use lib.ListN.{length};
-ghost use Rattle.table.specs.Room.{Sides, Measures, Earlier, Filled, Fits, baseOf};
+ghost use Rattle.table.specs.Planes.{Measures, Earlier, Filled, Fits, baseOf};
+ghost use Rattle.entry.specs.Room.{Sides};
 
 // Fills the plane of (i, j), whose cells start at `at`.
 fn fill_plane(

@@ -1,16 +1,16 @@
 // Questions to a filled table.
-use crate::Grid;
+use entry::Grid;
 use bits::bit;
 use bits::both;
 use bits::either;
-use bits::read_word;
+use cells::read_word;
 use bits::single;
 ghost use Prim.Native.Nat.{ℕ, _-_, _≤_, _<_};
 ghost use mathlib.Core.Path.{_≡_};
 ghost use mathlib.Core.Bool.{_&&_};
 ghost use lib.Dec.{leb};
 ghost use Rattle.bits.specs.Bits.{bitOf};
-ghost use Rattle.table.specs.Room.{Fits, meeting};
+ghost use Rattle.table.specs.Planes.{Fits, meeting};
 
 // Whether some row from `low` to `high` of plane (i, j), whose step to `next` is in `by`, meets the mask.
 pub fn meets(

@@ -13,8 +13,8 @@ use Rattle.channel.specs.Below.{anyBelow}
 use Rattle.channel.proofs.Below.{anyBelow-cong}
 use Rattle.bits.specs.Bits.{bitOf}
 use Rattle.bits.proofs.Laws.{word-cong}
-use Rattle.table.specs.declared.Grid.{Grid}
-use Rattle.table.specs.Room.{heldAt, meeting}
+use Rattle.entry.specs.declared.Grid.{Grid}
+use Rattle.table.specs.Planes.{heldAt, meeting}
 use Rattle.walk.specs.declared.Mark.{Mark}
 use Rattle.walk.specs.Walk.{stepsTo, standsAt, numberFits, lefts, rowFits, rowMeets, someLeft, someHere, emptyMeets, topMeets, emptyFits, topFits, bottomFits, choiceIn, hasTopPin, hasBottomPin, behind, written, walkColumns}
 use Rattle.walk.specs.Walking.{Walks}

@@ -8,9 +8,9 @@ use lib.ListN.{set}
 use lib.Dec.{leb, ltb, eqb}
 use Rattle.channel.specs.Below.{anyBelow}
 use Rattle.bits.specs.Bits.{bitOf, inWord}
-use Rattle.table.specs.declared.Grid.{Grid}
+use Rattle.entry.specs.declared.Grid.{Grid}
 use Rattle.arrays.specs.Rules.{rangeAt}
-use Rattle.table.specs.Room.{heldAt}
+use Rattle.table.specs.Planes.{heldAt}
 use Rattle.walk.specs.declared.Mark.{Mark}
 
 -- every number below 64

@@ -5,8 +5,8 @@ use mathlib.Core.Path.{_≡_}
 use mathlib.Core.List.{List}
 use lib.ListN.{length}
 use Rattle.arrays.specs.Rules.{ruleWords}
-use Rattle.table.specs.declared.Grid.{Grid}
-use Rattle.table.specs.Room.{Fits}
+use Rattle.entry.specs.declared.Grid.{Grid}
+use Rattle.table.specs.Planes.{Fits}
 use Rattle.walk.specs.declared.Mark.{Mark}
 
 -- the planes of 0 to p, for 0 to q bottom pins and of one row or more, lie in the work cells, and so do the rules in their array

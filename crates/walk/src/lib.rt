@@ -2,7 +2,7 @@
 use arrays::range;
 use bits::bit;
 use bits::single;
-use table::Grid;
+use entry::Grid;
 use table::back;
 use table::meets;
 ghost use Prim.Native.Nat.{ℕ, _+_, _-_, _≤_, _<_, min};

@@ -6,7 +6,7 @@ use mathlib.Core.Path.{_≡_, refl, _∙_}
 use native.Mathlib.Omega.{arith}
 use lib.ListN.{length, drop}
 use borrow.Author.Needs.{needs}
-use Rattle.table.specs.Room.{SameGaps}
+use Rattle.table.specs.Planes.{SameGaps}
 use Rattle.pass.specs.Pass.{feasibleIn, tableEnd}
 use Rattle.pass.proofs.Passes.{Between, between-start, between-more, between-end, between-falls}
 use Rattle.pass.proofs.Kept.{given-kept}

@@ -4,7 +4,7 @@ use mathlib.Core.Path.{sym, _∙_}
 use native.Mathlib.Omega.{arith}
 use borrow.Author.Needs.{needs}
 use Rattle.text.proofs.Writes.{wrote-nothing, after, kept, same-text}
-use Rattle.report.proofs.Lines.{refused-lines, opened-shape}
+use Rattle.report.proofs.Sides.{refused-lines, opened-shape}
 use Rattle.report.proofs.put_result.Statement.{statement}
 use Rattle.report.proofs.put_result.Tie as tie
 

@@ -7,7 +7,7 @@ use lib.ListN.{drop, length-drop}
 use lib.Seq.{length-take-le}
 use borrow.Author.Needs.{needs}
 use Rattle.text.proofs.Writes.{after, kept, same-text}
-use Rattle.report.proofs.Lines.{pins-count, side-lines}
+use Rattle.report.proofs.Sides.{pins-count, side-lines}
 use Rattle.report.proofs.put_sides.Statement.{statement}
 use Rattle.report.proofs.put_sides.Tie as tie
 

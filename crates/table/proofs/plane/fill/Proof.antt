@@ -4,7 +4,7 @@ use Prim.Native.Nat.{ℕ, _≤_, _-_, _+_, _*_}
 use mathlib.Core.Path.{_≡_, _∙_, sym, ap}
 use native.Mathlib.Omega.{arith}
 use native.Mathlib.Nat.{zero-mul}
-use Rattle.table.specs.Room.{Filled}
+use Rattle.table.specs.Planes.{Filled}
 use Rattle.table.proofs.Planes.{filled-none, filled-then, nothing-earlier, row-next, row-in-table}
 use Rattle.table.proofs.plane.fill.Statement.{statement}
 use Rattle.table.proofs.plane.fill.Tie as tie

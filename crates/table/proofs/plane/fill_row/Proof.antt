@@ -3,7 +3,7 @@
 use Prim.Native.Nat.{ℕ, _≤_, _-_, _+_}
 use mathlib.Core.Path.{_≡_, _∙_, sym, ap}
 use native.Mathlib.Omega.{arith}
-use Rattle.table.specs.Room.{Filled, baseOf}
+use Rattle.table.specs.Planes.{Filled, baseOf}
 use Rattle.table.proofs.Planes.{filled-none, filled-then, row-filled, row-start, plane-next, plane-in-row, row-end}
 use Rattle.table.proofs.plane.fill_row.Statement.{statement}
 use Rattle.table.proofs.plane.fill_row.Tie as tie

@@ -1,0 +1,33 @@
+-- `density::count_net` meets its contract: 1 is added from the net's leftmost to its rightmost pin, if they differ.
+-- Assumes nothing.
+use borrow.Author.Needs.{needs}
+use Rattle.density.proofs.count_net.Statement.{statement}
+use Rattle.spans.specs.Spans.{pinsOf}
+use Rattle.density.proofs.Sums.{counted, uncounted}
+use Rattle.density.proofs.count_net.Tie as tie
+
+returns : tie.Need-returns
+returns c =
+    let a = c .before .before .before .before .before .before .before .before .before .before .before .before .args in
+    let s = c .before .before .before .before .before .before .before .before .span-of in
+    counted (pinsOf (a .nets .now) (a .columns .now)) (a .net) (s .result) (s .ensures) (a .counts .now) (c .before .before .add-span .last .0)
+    (c .before .before .before .before .before .before .if1 .taken)
+    (c .before .before .add-span .ensures)
+
+returns-2 : tie.Need-returns-2
+returns-2 c =
+    let a = c .before .before .before .before .before .before .args in
+    let s = c .before .before .span-of in
+    uncounted (pinsOf (a .nets .now) (a .columns .now)) (a .net) (s .result) (s .ensures) (a .counts .now) (c .if1 .left)
+
+pub count-net-spec : {M : Type 1} → statement M
+count-net-spec =
+    tie.close
+    (tie.spec
+    (λ c κs. search needs)
+    (λ c. search needs)
+    (λ c. search needs)
+    (λ c κs. search needs)
+    (λ c. search needs)
+    returns
+    returns-2)
