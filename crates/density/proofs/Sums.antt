@@ -17,7 +17,7 @@ use Rattle.channel.proofs.Spans.{spans-from}
 use Rattle.channel.specs.Spans.{sumLast, leftmost, rightmost}
 use Rattle.spans.specs.declared.Span.{Span}
 use Rattle.spans.specs.Spans.{pinsOf, spanOf}
-use Rattle.spans.proofs.Nets.{drop-next}
+use Rattle.nets.proofs.Nets.{drop-next}
 use Rattle.density.specs.Counted.{netSpans, countedAt, Added, Small, within}
 
 -- the crossings of a column: one net more

@@ -1,6 +1,6 @@
 // The density of a list: each net is counted once in the columns that it crosses.
-use spans::all_nets;
-use spans::occurs;
+use nets::all_nets;
+use nets::occurs;
 use spans::span_of;
 ghost use mathlib.Core.Path.{_≡_};
 ghost use Prim.Native.Nat.{ℕ, _≤_, _<_};

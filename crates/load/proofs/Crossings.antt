@@ -1,4 +1,4 @@
--- The loads that a loop over the spans counts are the loads of the cut.
+-- The loads that a loop over the nets' places counts are the loads of the cut.
 -- Assumes nothing.
 use Prim.Native.Nat.{ℕ, zero, suc, _+_, _*_, _/_, _≤_, _<_}
 use mathlib.Core.Path.{_≡_, refl, sym, ap, ap₂, _∙_, fun-ext}
@@ -16,11 +16,13 @@ use Rattle.channel.specs.Cut.{leftOf, hereOf, rightOf, crossesCut}
 use Rattle.channel.proofs.Columns.{any-append}
 use Rattle.load.specs.declared.counting.Cut.{Cut}
 use Rattle.load.specs.declared.counting.Loads.{Loads}
-use Rattle.load.specs.declared.spans.Span.{Span}
+use Rattle.places.specs.declared.NetPlaces.{NetPlaces}
 use Rattle.load.specs.Cuts.{loadOf}
-use Rattle.load.specs.Ends.{spanOf, numbersOf, spansOf, spanAt, Listed}
+use Rattle.places.specs.Places.{placesOf, placesList, placesAt, Listed}
+use Rattle.places.proofs.Listing.{places-at, length-places}
 use Rattle.load.specs.Counts.{cutOf, crossesAs, withNet, loadsTo, loadsAt}
-use Rattle.load.proofs.Places.{side-left, side-here, side-right}
+use Rattle.load.proofs.Stands.{side-left, side-here}
+use Rattle.places.proofs.Ends.{side-right}
 
 -- a net crosses the column of a cut exactly if its ends say so
 crosses-as : (a : Letter) (tops bottoms : List ℕ) (i j : ℕ)
@@ -31,7 +33,7 @@ crosses-as : (a : Letter) (tops bottoms : List ℕ) (i j : ℕ)
     → (hasTop a ≡ true → 1 ≤ i)
     → (hasBottom a ≡ true → 1 ≤ j)
     → (n : ℕ)
-    → crossesAs a (cutOf tops bottoms i j) (spanOf tops bottoms n)
+    → crossesAs a (cutOf tops bottoms i j) (placesOf tops bottoms n)
     ≡ crossesCut n (leftOf (hasTop a) i tops ++ leftOf (hasBottom a) j bottoms) (hereOf (hasTop a) i tops ++ hereOf (hasBottom a) j bottoms) (rightOf i tops ++ rightOf j bottoms)
 crosses-as a tops bottoms i j p q h k t b n =
     rw (
@@ -43,22 +45,6 @@ crosses-as a tops bottoms i j p q h k t b n =
       side-right n bottoms j,
     )
     (simp any-append)
-
--- the span at index m of the list is that of the net at m
-span-more : (s : Span) (xs : List ℕ) (m : ℕ) → spanAt (numbersOf s ++ xs) (suc m) ≡ spanAt xs m
-span-more s xs m =
-    let five : 5 * suc m ≡ suc (suc (suc (suc (suc (5 * m))))) = omega arith in
-    let more : (r : ℕ) → 5 * suc m + r ≡ suc (suc (suc (suc (suc (5 * m + r))))) = λ r. omega arith in
-    rw (more 1, more 2, more 3, more 4, five)
-
-span-at : (tops bottoms ns : List ℕ) (m : ℕ) → m < length ns → spanAt (spansOf tops bottoms ns) m ≡ spanOf tops bottoms (getD ns m 0)
-span-at tops bottoms (n ∷ ns) zero h = refl
-span-at tops bottoms (n ∷ ns) (suc m) h =
-    span-more (spanOf tops bottoms n) (spansOf tops bottoms ns) m ∙ span-at tops bottoms ns m (omega arith)
-
-pub length-spans : (tops bottoms ns : List ℕ) → length (spansOf tops bottoms ns) ≡ 5 * length ns
-length-spans tops bottoms [] = refl
-length-spans tops bottoms (n ∷ ns) = omega (arith, length-spans tops bottoms ns)
 
 -- one net more at the end of a list
 weight-snoc : (f : ℕ → Bool) (ns : List ℕ) (n : ℕ) → weightOf f (ns ++ (n ∷ [])) ≡ weightOf f ns + cond (f n) 1 0
@@ -73,46 +59,46 @@ one-more false = omega arith
 -- one of the three loads: that of letter a
 module _ (pick : Loads → ℕ) (a : Letter) (c : Cut)
     (none : pick (record { top = 0; bottom = 0; both = 0 }) ≡ 0)
-    (more : (l : Loads) (s : Span) → pick (withNet c l s) ≡ pick l + cond (crossesAs a c s) 1 0) where
+    (more : (l : Loads) (s : NetPlaces) → pick (withNet c l s) ≡ pick l + cond (crossesAs a c s) 1 0) where
   -- it is at most the number of nets counted
-  picked-small : (spans : List ℕ) (m : ℕ) → pick (loadsTo spans c m) ≤ m
-  picked-small spans zero = omega (arith, none)
-  picked-small spans (suc m) =
-      omega (arith, more (loadsTo spans c m) (spanAt spans m), picked-small spans m, one-more (crossesAs a c (spanAt spans m)))
+  picked-small : (places : List ℕ) (m : ℕ) → pick (loadsTo places c m) ≤ m
+  picked-small places zero = omega (arith, none)
+  picked-small places (suc m) =
+      omega (arith, more (loadsTo places c m) (placesAt places m), picked-small places m, one-more (crossesAs a c (placesAt places m)))
 
   -- over the first m nets of a list it counts those that cross
   picked : (tops bottoms ns : List ℕ) (m : ℕ) → m ≤ length ns
-      → pick (loadsTo (spansOf tops bottoms ns) c m) ≡ weightOf (λ (n : ℕ). crossesAs a c (spanOf tops bottoms n)) (take m ns)
+      → pick (loadsTo (placesList tops bottoms ns) c m) ≡ weightOf (λ (n : ℕ). crossesAs a c (placesOf tops bottoms n)) (take m ns)
   picked tops bottoms ns zero h = none
   picked tops bottoms ns (suc m) h =
-      let spans : List ℕ = spansOf tops bottoms ns in
-      let f : ℕ → Bool = λ n. crossesAs a c (spanOf tops bottoms n) in
-      more (loadsTo spans c m) (spanAt spans m)
-      ∙ ap₂ (λ (k : ℕ) (s : Span). k + cond (crossesAs a c s) 1 0) (picked tops bottoms ns m (omega arith)) (span-at tops bottoms ns m h)
+      let places : List ℕ = placesList tops bottoms ns in
+      let f : ℕ → Bool = λ n. crossesAs a c (placesOf tops bottoms n) in
+      more (loadsTo places c m) (placesAt places m)
+      ∙ ap₂ (λ (k : ℕ) (s : NetPlaces). k + cond (crossesAs a c s) 1 0) (picked tops bottoms ns m (omega arith)) (places-at tops bottoms ns m h)
       ∙ sym (ap (weightOf f) (take-suc ns m 0 h) ∙ weight-snoc f (take m ns) (getD ns m 0))
 
   picked-all : (tops bottoms ns : List ℕ)
-      → pick (loadsAt (spansOf tops bottoms ns) c) ≡ weightOf (λ (n : ℕ). crossesAs a c (spanOf tops bottoms n)) ns
+      → pick (loadsAt (placesList tops bottoms ns) c) ≡ weightOf (λ (n : ℕ). crossesAs a c (placesOf tops bottoms n)) ns
   unfolding loadsAt
   picked-all tops bottoms ns =
-      let spans : List ℕ = spansOf tops bottoms ns in
-      let n : length spans / 5 ≡ length ns = ap (λ (k : ℕ). k / 5) (length-spans tops bottoms ns) ∙ mul-div-right (length ns) (omega arith) in
-      ap (λ (k : ℕ). pick (loadsTo spans c k)) n
+      let places : List ℕ = placesList tops bottoms ns in
+      let n : length places / 5 ≡ length ns = ap (λ (k : ℕ). k / 5) (length-places tops bottoms ns) ∙ mul-div-right (length ns) (omega arith) in
+      ap (λ (k : ℕ). pick (loadsTo places c k)) n
       ∙ picked tops bottoms ns (length ns) (le-refl (length ns))
-      ∙ ap (weightOf (λ (n : ℕ). crossesAs a c (spanOf tops bottoms n))) (take-length ns)
+      ∙ ap (weightOf (λ (n : ℕ). crossesAs a c (placesOf tops bottoms n))) (take-length ns)
 
 -- so the three are small while few nets are counted
-pub loads-small : (spans : List ℕ) (c : Cut) (m : ℕ) (l : Loads) → l ≡ loadsTo spans c m → m < 255 → (l .top < 255) × (l .bottom < 255) × (l .both < 255)
+pub loads-small : (places : List ℕ) (c : Cut) (m : ℕ) (l : Loads) → l ≡ loadsTo places c m → m < 255 → (l .top < 255) × (l .bottom < 255) × (l .both < 255)
 unfolding withNet
-loads-small spans c m l e h =
+loads-small places c m l e h =
     rw e (
-      omega (arith, picked-small (λ (l : Loads). l .top) T c refl (λ l s. refl) spans m),
-      omega (arith, picked-small (λ (l : Loads). l .bottom) B c refl (λ l s. refl) spans m),
-      omega (arith, picked-small (λ (l : Loads). l .both) TB c refl (λ l s. refl) spans m),
+      omega (arith, picked-small (λ (l : Loads). l .top) T c refl (λ l s. refl) places m),
+      omega (arith, picked-small (λ (l : Loads). l .bottom) B c refl (λ l s. refl) places m),
+      omega (arith, picked-small (λ (l : Loads). l .both) TB c refl (λ l s. refl) places m),
     )
 
 -- the loads with a net more, from the three tests of it as the code makes them: a top column has no bottom pin to test
-pub net-more : (c : Cut) (l : Loads) (s : Span) (x y z : Bool) (p q r : ℕ)
+pub net-more : (c : Cut) (l : Loads) (s : NetPlaces) (x y z : Bool) (p q r : ℕ)
     → x
     ≡ crossing (ltb (s .top .first) (c .top .count) || leb (s .bottom .first) (c .bottom .count)) (eqb (c .top .net) (s .net))
     (ltb (c .top .count) (s .top .last) || ltb (c .bottom .count) (s .bottom .last))
@@ -126,29 +112,29 @@ unfolding withNet
 net-more c l s x y z p q r ex ey ez ep eq er = rw (ep, eq, er, ex, ey, ez, or-false)
 
 -- what the loop counts for letter a at the cut (i, j), where the column of such a cut has a pin for each pin of the letter
-module _ (tops bottoms spans : List ℕ) (listed : Listed tops bottoms spans) (i j : ℕ) (h : i ≤ length tops) (k : j ≤ length bottoms) where
+module _ (tops bottoms places : List ℕ) (listed : Listed tops bottoms places) (i j : ℕ) (h : i ≤ length tops) (k : j ≤ length bottoms) where
   load-at : (pick : Loads → ℕ) (a : Letter)
       → pick (record { top = 0; bottom = 0; both = 0 }) ≡ 0
-      → ((l : Loads) (s : Span) → pick (withNet (cutOf tops bottoms i j) l s) ≡ pick l + cond (crossesAs a (cutOf tops bottoms i j) s) 1 0)
+      → ((l : Loads) (s : NetPlaces) → pick (withNet (cutOf tops bottoms i j) l s) ≡ pick l + cond (crossesAs a (cutOf tops bottoms i j) s) 1 0)
       → (hasTop a ≡ true → 1 ≤ i)
       → (hasBottom a ≡ true → 1 ≤ j)
-      → pick (loadsAt spans (cutOf tops bottoms i j)) ≡ loadOf tops bottoms a i j
+      → pick (loadsAt places (cutOf tops bottoms i j)) ≡ loadOf tops bottoms a i j
   unfolding loadOf
   load-at pick a none more t b =
       let c : Cut = cutOf tops bottoms i j in
       let ns : List ℕ = distinct (tops ++ bottoms) in
-      ap (λ (xs : List ℕ). pick (loadsAt xs c)) (listed .spans)
+      ap (λ (xs : List ℕ). pick (loadsAt xs c)) (listed .places)
       ∙ picked-all pick a c none more tops bottoms ns
       ∙ ap (λ (f : ℕ → Bool). weightOf f ns) (fun-ext (crosses-as a tops bottoms i j (listed .top) (listed .bottom) h k t b))
 
-  pub top-load : 1 ≤ i → loadsAt spans (cutOf tops bottoms i j) .top ≡ loadOf tops bottoms T i j
+  pub top-load : 1 ≤ i → loadsAt places (cutOf tops bottoms i j) .top ≡ loadOf tops bottoms T i j
   unfolding withNet
   top-load t = load-at (λ (l : Loads). l .top) T refl (λ l s. refl) (λ e. t) (λ e. absurd (false≢true e))
 
-  pub bottom-load : 1 ≤ j → loadsAt spans (cutOf tops bottoms i j) .bottom ≡ loadOf tops bottoms B i j
+  pub bottom-load : 1 ≤ j → loadsAt places (cutOf tops bottoms i j) .bottom ≡ loadOf tops bottoms B i j
   unfolding withNet
   bottom-load b = load-at (λ (l : Loads). l .bottom) B refl (λ l s. refl) (λ e. absurd (false≢true e)) (λ e. b)
 
-  pub both-load : 1 ≤ i → 1 ≤ j → loadsAt spans (cutOf tops bottoms i j) .both ≡ loadOf tops bottoms TB i j
+  pub both-load : 1 ≤ i → 1 ≤ j → loadsAt places (cutOf tops bottoms i j) .both ≡ loadOf tops bottoms TB i j
   unfolding withNet
   both-load t b = load-at (λ (l : Loads). l .both) TB refl (λ l s. refl) (λ e. t) (λ e. b)

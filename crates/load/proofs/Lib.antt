@@ -1,6 +1,5 @@
+pub mod Stands
+pub mod Crossings
 pub mod LoadOf
 pub mod Sections
-pub mod Places
-pub mod Crossings
-pub mod Listing
 pub mod Table

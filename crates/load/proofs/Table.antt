@@ -15,7 +15,7 @@ use Rattle.arrays.specs.Loads.{loadBytes, loadAt, putLoads}
 use Rattle.arrays.proofs.Loads.{length-put-loads, top-put, bottom-put, both-put, load-put-other}
 use Rattle.load.specs.declared.counting.Loads.{Loads}
 use Rattle.load.specs.Cuts.{Cell, AllLoads, Written}
-use Rattle.load.specs.Ends.{Listed}
+use Rattle.places.specs.Places.{Listed}
 use Rattle.load.specs.Counts.{cutOf, loadsAt, possibleLoads}
 use Rattle.load.proofs.Crossings.{top-load, bottom-load, both-load}
 
@@ -29,16 +29,16 @@ kept-both zero j x y h = refl
 kept-both (suc i) j x y h = rw (ne-eqb (suc i) 0 (λ e. omega arith)) (kept j x y (h (omega arith)))
 
 -- the loads of a cut, put in
-pub write-cell : (tops bottoms spans : List ℕ) → Listed tops bottoms spans
+pub write-cell : (tops bottoms places : List ℕ) → Listed tops bottoms places
     → (i j : ℕ) → i ≤ length tops → j ≤ length bottoms
     → (old new : List ℕ) (l m : Loads)
     → length old ≡ loadBytes
-    → l ≡ loadsAt spans (cutOf tops bottoms i j)
+    → l ≡ loadsAt places (cutOf tops bottoms i j)
     → m ≡ possibleLoads l i j
     → new ≡ putLoads old i j (m .top) (m .bottom) (m .both)
     → Written tops bottoms old new (λ x y. (x ≡ i) × (y ≡ j))
-write-cell tops bottoms spans listed i j h k old new l m size e f s =
-    let put : m ≡ possibleLoads (loadsAt spans (cutOf tops bottoms i j)) i j = f ∙ ap (λ (n : Loads). possibleLoads n i j) e in
+write-cell tops bottoms places listed i j h k old new l m size e f s =
+    let put : m ≡ possibleLoads (loadsAt places (cutOf tops bottoms i j)) i j = f ∙ ap (λ (n : Loads). possibleLoads n i j) e in
     let t : i ≤ pins = omega (arith, listed .top) in
     let b : j ≤ pins = omega (arith, listed .bottom) in
     rw s (record {
@@ -47,15 +47,15 @@ write-cell tops bottoms spans listed i j h k old new l m size e f s =
         top =
             top-put old i j (m .top) (m .bottom) (m .both) b size t
             ∙ ap (λ (n : Loads). n .top) put
-            ∙ kept i _ _ (top-load tops bottoms spans listed i j h k);
+            ∙ kept i _ _ (top-load tops bottoms places listed i j h k);
         bottom =
             bottom-put old i j (m .top) (m .bottom) (m .both) b size t
             ∙ ap (λ (n : Loads). n .bottom) put
-            ∙ kept j _ _ (bottom-load tops bottoms spans listed i j h k);
+            ∙ kept j _ _ (bottom-load tops bottoms places listed i j h k);
         both =
             both-put old i j (m .top) (m .bottom) (m .both) b size t
             ∙ ap (λ (n : Loads). n .both) put
-            ∙ kept-both i j _ _ (both-load tops bottoms spans listed i j h k);
+            ∙ kept-both i j _ _ (both-load tops bottoms places listed i j h k);
       });
       others = λ x y letter g c o. load-put-other old i j (m .top) (m .bottom) (m .both) b x y letter g c (λ p q. o (p, q));
     })

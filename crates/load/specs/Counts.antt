@@ -1,4 +1,4 @@
--- The loads of one cut, as a loop over the spans counts them.
+-- The loads of one cut, as a loop over the nets' places counts them.
 -- Assumes nothing.
 use Prim.Native.Nat.{ℕ, zero, suc, _+_, _/_}
 use mathlib.Core.List.{List, _∷_}
@@ -10,9 +10,9 @@ use Rattle.channel.specs.Word.{Letter, hasTop, hasBottom}
 use Rattle.channel.specs.Word.Letter.{top as T, bottom as B, both as TB}
 use Rattle.load.specs.declared.counting.Cut.{Cut}
 use Rattle.load.specs.declared.counting.Loads.{Loads}
-use Rattle.load.specs.declared.spans.Span.{Span}
+use Rattle.places.specs.declared.NetPlaces.{NetPlaces}
 use Rattle.load.specs.declared.counting.Stand.{Stand}
-use Rattle.load.specs.Ends.{spanAt}
+use Rattle.places.specs.Places.{placesAt}
 
 -- the net at a place, from 1, of one side; 0 at place 0
 abbrev pub netAt : List ℕ → ℕ → ℕ
@@ -34,14 +34,14 @@ abbrev pub hereTest : Bool → Stand → ℕ → Bool
 hereTest h s n = h && eqb (s .net) n
 
 -- whether a net crosses the column, where it holds letter a
-abbrev pub crossesAs : Letter → Cut → Span → Bool
+abbrev pub crossesAs : Letter → Cut → NetPlaces → Bool
 crossesAs a c s =
     crossing (leftTest (hasTop a) (s .top .first) (c .top .count) || leftTest (hasBottom a) (s .bottom .first) (c .bottom .count))
     (hereTest (hasTop a) (c .top) (s .net) || hereTest (hasBottom a) (c .bottom) (s .net))
     (ltb (c .top .count) (s .top .last) || ltb (c .bottom .count) (s .bottom .last))
 
 -- the loads with one net more
-unfoldable pub withNet : Cut → Loads → Span → Loads
+unfoldable pub withNet : Cut → Loads → NetPlaces → Loads
 withNet c l s =
     record {
       top = l .top + cond (crossesAs T c s) 1 0;
@@ -49,13 +49,13 @@ withNet c l s =
       both = l .both + cond (crossesAs TB c s) 1 0;
     }
 
--- the loads over the first m spans, and over all
+-- the loads over the first m nets, and over all
 abbrev pub loadsTo : List ℕ → Cut → ℕ → Loads
-loadsTo spans c zero = record { top = 0; bottom = 0; both = 0 }
-loadsTo spans c (suc m) = withNet c (loadsTo spans c m) (spanAt spans m)
+loadsTo places c zero = record { top = 0; bottom = 0; both = 0 }
+loadsTo places c (suc m) = withNet c (loadsTo places c m) (placesAt places m)
 
 unfoldable pub loadsAt : List ℕ → Cut → Loads
-loadsAt spans c = loadsTo spans c (length spans / 5)
+loadsAt places c = loadsTo places c (length places / 5)
 
 -- the loads of the columns that can be at the cut (i, j), and 0 for the others: one with a top pin has i ≥ 1, one with a bottom pin j ≥ 1
 abbrev pub possibleLoads : Loads → ℕ → ℕ → Loads

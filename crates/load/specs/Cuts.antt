@@ -9,8 +9,7 @@ use lib.Dec.{eqb}
 use Rattle.channel.specs.Density.{weightOf, distinct}
 use Rattle.channel.specs.Word.{Letter, hasTop, hasBottom}
 use Rattle.channel.specs.Word.Letter.{top as T, bottom as B, both as TB}
-use Rattle.channel.specs.Cut.{nets, leftOf, hereOf, rightOf, crossesCut}
-use Rattle.sheet.specs.Parts.{terminalsIn}
+use Rattle.channel.specs.Cut.{leftOf, hereOf, rightOf, crossesCut}
 use Rattle.arrays.specs.Rules.{pins}
 use Rattle.arrays.specs.Loads.{loadAt}
 
@@ -20,10 +19,6 @@ loadOf tops bottoms a i j =
     weightOf
     (λ (n : ℕ). crossesCut n (leftOf (hasTop a) i tops ++ leftOf (hasBottom a) j bottoms) (hereOf (hasTop a) i tops ++ hereOf (hasBottom a) j bottoms) (rightOf i tops ++ rightOf j bottoms))
     (distinct (tops ++ bottoms))
-
--- the nets of a section's terminals
-abbrev pub netsIn : List ℕ → List ℕ
-netsIn part = nets (terminalsIn part)
 
 -- the loads of the cut (i, j), of a column with a top pin only, a bottom pin only, and both.
 -- A column with a top pin has i ≥ 1, and one with a bottom pin has j ≥ 1: where there is no such column, the byte is 0.

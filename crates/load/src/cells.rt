@@ -3,8 +3,8 @@ use crate::counting::Cut;
 use crate::counting::Loads;
 use crate::counting::loads_at;
 use crate::counting::stand_at;
-use crate::nets::read_nets;
-use crate::spans::list_spans;
+use nets::all_nets;
+use places::list_places;
 use arrays::put_loads;
 ghost use mathlib.Core.Path.{_≡_};
 ghost use mathlib.Core.Bool.{cond};
@@ -13,8 +13,9 @@ ghost use lib.ListN.{length, take, drop};
 ghost use Rattle.sheet.specs.Parts.{terminalsIn};
 ghost use Rattle.arrays.specs.Loads.{loadBytes};
 ghost use Rattle.load.specs.Counts.{possibleLoads};
-ghost use Rattle.load.specs.Cuts.{netsIn, AllLoads, Written};
-ghost use Rattle.load.specs.Ends.{TwoSides, Listed};
+ghost use Rattle.load.specs.Cuts.{AllLoads, Written};
+ghost use Rattle.nets.specs.Nets.{netsIn};
+ghost use Rattle.places.specs.Places.{TwoSides, Listed};
 
 // A load, or 0 where there is no such column.
 fn unless(none: bool, load: u8) -> u8
@@ -35,36 +36,36 @@ fn possible_loads(l: Loads, i: usize, j: usize) -> Loads
 }
 
 // Puts the loads of the cut (i, j) into the table.
-fn write_cell(tops: &[u16], bottoms: &[u16], spans: &[u16], i: usize, j: usize, loads: &mut [u8])
-    requires { ⌜ Listed (now tops) (now bottoms) (now spans) × (i ≤ length (now tops)) × (j ≤ length (now bottoms)) × (length (now loads) ≡ loadBytes) ⌝ }
+fn write_cell(tops: &[u16], bottoms: &[u16], places: &[u16], i: usize, j: usize, loads: &mut [u8])
+    requires { ⌜ Listed (now tops) (now bottoms) (now places) × (i ≤ length (now tops)) × (j ≤ length (now bottoms)) × (length (now loads) ≡ loadBytes) ⌝ }
     ensures { λ r. ⌜ Written (now (tops .entry)) (now (bottoms .entry)) (now (loads .entry)) (now (loads .exit)) (λ (x y : ℕ). (x ≡ i) × (y ≡ j)) ⌝ }
 {
     let top = stand_at(tops, i);
     let bottom = stand_at(bottoms, j);
-    let l = possible_loads(loads_at(spans, Cut { top, bottom }), i, j);
+    let l = possible_loads(loads_at(places, Cut { top, bottom }), i, j);
     put_loads(loads, i, j, l.top, l.bottom, l.both);
 }
 
 // Puts the loads of all cuts with i top pins into the table.
-fn write_row(tops: &[u16], bottoms: &[u16], spans: &[u16], i: usize, loads: &mut [u8])
-    requires { ⌜ Listed (now tops) (now bottoms) (now spans) × (i ≤ length (now tops)) × (length (now loads) ≡ loadBytes) ⌝ }
+fn write_row(tops: &[u16], bottoms: &[u16], places: &[u16], i: usize, loads: &mut [u8])
+    requires { ⌜ Listed (now tops) (now bottoms) (now places) × (i ≤ length (now tops)) × (length (now loads) ≡ loadBytes) ⌝ }
     ensures { λ r. ⌜ Written (now (tops .entry)) (now (bottoms .entry)) (now (loads .entry)) (now (loads .exit)) (λ (x y : ℕ). (x ≡ i) × (y < length (now (bottoms .entry)) + 1)) ⌝ }
 {
     let mut j = 0;
     while j < bottoms.len() + 1 {
-        write_cell(tops, bottoms, spans, i, j, loads);
+        write_cell(tops, bottoms, places, i, j, loads);
         j += 1;
     }
 }
 
 // Puts the loads of all cuts into the table.
-fn write_table(tops: &[u16], bottoms: &[u16], spans: &[u16], loads: &mut [u8])
-    requires { ⌜ Listed (now tops) (now bottoms) (now spans) × (length (now loads) ≡ loadBytes) ⌝ }
+fn write_table(tops: &[u16], bottoms: &[u16], places: &[u16], loads: &mut [u8])
+    requires { ⌜ Listed (now tops) (now bottoms) (now places) × (length (now loads) ≡ loadBytes) ⌝ }
     ensures { λ r. ⌜ AllLoads (now (tops .entry)) (now (bottoms .entry)) (now (loads .entry)) (now (loads .exit)) ⌝ }
 {
     let mut i = 0;
     while i < tops.len() + 1 {
-        write_row(tops, bottoms, spans, i, loads);
+        write_row(tops, bottoms, places, i, loads);
         i += 1;
     }
 }
@@ -74,10 +75,10 @@ fn tabulate(nets: &[u16], p: usize, loads: &mut [u8])
     requires { ⌜ TwoSides (now nets) p × (length (now loads) ≡ loadBytes) ⌝ }
     ensures { λ r. ⌜ AllLoads (take p (now (nets .entry))) (drop p (now (nets .entry))) (now (loads .entry)) (now (loads .exit)) ⌝ }
 {
-    let mut spans: [u16; 640] = [0; 640];
-    let k = list_spans(nets, p, &mut spans[..]);
+    let mut places: [u16; 640] = [0; 640];
+    let k = list_places(nets, p, &mut places[..]);
     let end = 5 * k;
-    write_table(&nets[..p], &nets[p..], &spans[..end], loads);
+    write_table(&nets[..p], &nets[p..], &places[..end], loads);
 }
 
 // The loads of all cuts of two sections, as `sheet::part_in` gives them, once per search.
@@ -88,7 +89,6 @@ pub fn read_loads(top: &[u8], bottom: &[u8], loads: &mut [u8])
     let mut nets: [u16; 128] = [0; 128];
     let p = sheet::count_in(top);
     let n = p + sheet::count_in(bottom);
-    read_nets(top, &mut nets[..], 0);
-    read_nets(bottom, &mut nets[..], p);
+    all_nets(top, bottom, p, &mut nets[..n]);
     tabulate(&nets[..n], p, loads);
 }

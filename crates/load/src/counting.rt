@@ -1,6 +1,6 @@
 // The three loads of one cut, counted in one loop over the nets.
-use crate::spans::Span;
-use crate::spans::span_at;
+use places::NetPlaces;
+use places::places_at;
 ghost use mathlib.Core.Path.{_≡_};
 ghost use mathlib.Core.Bool.{cond};
 ghost use Prim.Native.Nat.{_+_, _≤_, _<_};
@@ -58,7 +58,7 @@ fn add_if(n: u8, more: bool) -> u8
 }
 
 // The loads with one net more.
-fn with_net(c: Cut, l: Loads, s: Span) -> Loads
+fn with_net(c: Cut, l: Loads, s: NetPlaces) -> Loads
     requires { ⌜ (l .top < 255) × (l .bottom < 255) × (l .both < 255) ⌝ }
     ensures { λ r. ⌜ r ≡ withNet c l s ⌝ }
 {
@@ -87,9 +87,9 @@ fn with_net(c: Cut, l: Loads, s: Span) -> Loads
 }
 
 // The loads of one cut.
-pub fn loads_at(spans: &[u16], c: Cut) -> Loads
-    requires { ⌜ length (now spans) ≤ 640 ⌝ }
-    ensures { λ r. ⌜ r ≡ loadsAt (now (spans .entry)) c ⌝ }
+pub fn loads_at(places: &[u16], c: Cut) -> Loads
+    requires { ⌜ length (now places) ≤ 640 ⌝ }
+    ensures { λ r. ⌜ r ≡ loadsAt (now (places .entry)) c ⌝ }
 {
     let mut l = Loads {
         top: 0,
@@ -97,9 +97,9 @@ pub fn loads_at(spans: &[u16], c: Cut) -> Loads
         both: 0,
     };
     let mut m = 0;
-    let n = spans.len() / 5;
+    let n = places.len() / 5;
     while m < n {
-        let s = span_at(spans, m);
+        let s = places_at(places, m);
         l = with_net(c, l, s);
         m += 1;
     }

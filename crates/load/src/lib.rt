@@ -3,7 +3,5 @@
 
 mod cells;
 mod counting;
-mod nets;
-mod spans;
 
 pub use cells::read_loads;

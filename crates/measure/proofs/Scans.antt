@@ -12,8 +12,8 @@ use Rattle.channel.specs.Assignment.{allows, inRange}
 use Rattle.terminal.specs.declared.Record.{Record}
 use Rattle.sheet.specs.Parts.{terminalsIn, entryIn}
 use Rattle.measure.specs.Answer.{sideAllowed, laterKept, sideKept}
-use Rattle.spans.specs.Spans.{recordOr}
-use Rattle.spans.proofs.Nets.{drop-next, record-terminal}
+use Rattle.nets.specs.Nets.{recordOr}
+use Rattle.nets.proofs.Nets.{drop-next, record-terminal}
 use Rattle.measure.specs.Inner.{sideAt}
 
 -- one place of a side, of which r is the record: the rest is said by the places behind it

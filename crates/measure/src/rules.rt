@@ -1,5 +1,5 @@
 // What 13 and 14 ask of a list as long as the terminals.
-use spans::terminal_at;
+use nets::terminal_at;
 ghost use mathlib.Core.Path.{_≡_};
 ghost use mathlib.Core.Bool.{not, _&&_};
 ghost use lib.ListN.{length};

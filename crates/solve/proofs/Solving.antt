@@ -20,7 +20,8 @@ use Rattle.sheet.specs.declared.Shape.{Shape}
 use Rattle.sheet.specs.Parts.{terminalsIn, sheetIn}
 use Rattle.arrays.specs.Rules.{ruleWords}
 use Rattle.arrays.specs.Loads.{loadBytes}
-use Rattle.load.specs.Cuts.{Cell, AllLoads, netsIn}
+use Rattle.load.specs.Cuts.{Cell, AllLoads}
+use Rattle.nets.specs.Nets.{netsIn}
 use Rattle.load.proofs.LoadOf.{load-of, cell-top, cell-bottom, cell-both}
 use Rattle.table.specs.Planes.{Measures}
 use Rattle.reach.specs.Reach.{feasible}

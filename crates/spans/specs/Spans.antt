@@ -4,15 +4,7 @@ use Prim.Native.Nat.{ℕ}
 use mathlib.Core.List.{List, [], _∷_}
 use Rattle.channel.specs.Density.{Pin}
 use Rattle.channel.specs.Spans.{leftmost, rightmost}
-use Rattle.terminal.specs.declared.Record.{Record}
-use Rattle.sheet.specs.declared.Entry.{Entry}
-use Rattle.sheet.specs.declared.Entry.the-variants.{Terminal as Found, Nothing}
 use Rattle.spans.specs.declared.Span.{Span}
-
--- an entry's record; all 0 where there is none
-abbrev pub recordOr : Entry → Record
-recordOr (Found r) = r
-recordOr Nothing = record { net = 0; least = 0; greatest = 0; allowed = 0 }
 
 -- the pins of a list of nets and their columns
 abbrev pub pinsOf : List ℕ → List ℕ → List Pin

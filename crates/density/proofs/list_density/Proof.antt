@@ -11,7 +11,7 @@ use lib.Seq.{length-take-le, take-at}
 use Rattle.channel.specs.Density.{maximumTo}
 use Rattle.sheet.specs.Parts.{terminalsIn}
 use Rattle.density.specs.Counted.{countedAt}
-use Rattle.spans.proofs.Nets.{length-nets}
+use Rattle.nets.proofs.Nets.{length-nets}
 use Rattle.density.proofs.Greatest.{bytes-below, density-counted}
 use Rattle.density.proofs.list_density.Tie as tie
 

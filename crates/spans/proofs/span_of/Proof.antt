@@ -12,7 +12,7 @@ use lib.Dec.{eqb}
 use Rattle.channel.specs.Density.{Pin}
 use Rattle.channel.specs.Spans.{endFrom, leftmost, rightmost}
 use Rattle.spans.specs.Spans.{pinsOf}
-use Rattle.spans.proofs.Nets.{end-more, end-past}
+use Rattle.spans.proofs.Ends.{end-more, end-past}
 use Rattle.spans.proofs.span_of.Statement.{statement}
 use Rattle.spans.proofs.span_of.Tie as tie
 

@@ -4,7 +4,7 @@ use Prim.Native.Nat.{_+_}
 use mathlib.Core.Path.{_≡_}
 use mathlib.Core.List.{_++_}
 use lib.ListN.{take}
-use Rattle.load.specs.Cuts.{netsIn}
+use Rattle.nets.specs.Nets.{netsIn}
 use Rattle.load.proofs.Sections.{both-nets, both-length, both-sides, both-loads}
 use borrow.Author.Needs.{needs}
 use Rattle.load.proofs.cells.read_loads.Statement.{statement}

@@ -1,10 +1,10 @@
--- `load::tabulate` meets its contract: the spans of all nets, and the table of their loads.
+-- `load::tabulate` meets its contract: the places of all nets, and the table of their loads.
 -- Assumes nothing.
 use Prim.Native.Nat.{_*_}
 use mathlib.Core.Path.{sym}
 use native.Mathlib.Omega.{arith}
 use lib.Seq.{length-take-le}
-use Rattle.load.proofs.Listing.{part-rest, sides-listed}
+use Rattle.places.proofs.Listing.{part-rest, sides-listed}
 use borrow.Author.Needs.{needs}
 use Rattle.load.proofs.cells.tabulate.Statement.{statement}
 use Rattle.load.proofs.cells.tabulate.Tie as tie
@@ -15,13 +15,13 @@ slice-aggregate-write-table c = sym (length-take-le _ _ (c .before .before .befo
 slice-aggregate-write-table-2 : tie.Need-slice-aggregate-write-table-2
 slice-aggregate-write-table-2 c =
     let d = c .before .before .before .before .before .before .before .before in
-    let l = c .before .before .before .before .list-spans in
+    let l = c .before .before .before .before .list-places in
     sym (length-take-le (5 * l .result) (l .last .1 .1 .0) (omega (arith, l .ensures .count, l .kept .1 .1 .0, d .pre .0 .top, d .pre .0 .bottom)))
 
 write-table-requires : tie.Need-write-table-requires
 write-table-requires c κs =
     let d = c .before .before .before .before .before .before .before .before .before in
-    (sides-listed (d .args .nets .now) (d .args .p) _ (d .pre .0) (c .before .before .before .before .before .list-spans .ensures .spans), d .pre .1)
+    (sides-listed (d .args .nets .now) (d .args .p) _ (d .pre .0) (c .before .before .before .before .before .list-places .ensures .places), d .pre .1)
 
 returns : tie.Need-returns
 returns c =

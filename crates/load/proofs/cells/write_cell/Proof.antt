@@ -3,7 +3,7 @@
 use mathlib.Core.Path.{_∙_, ap₂}
 use Rattle.load.specs.declared.counting.Stand.{Stand}
 use Rattle.load.specs.Counts.{loadsAt}
-use Rattle.load.proofs.Listing.{listed-length}
+use Rattle.places.proofs.Listing.{listed-length}
 use Rattle.load.proofs.Table.{write-cell}
 use borrow.Author.Needs.{needs}
 use Rattle.load.proofs.cells.write_cell.Statement.{statement}
@@ -20,12 +20,12 @@ returns c =
     let at-stand-at = at-stand-at2 .before in
     let d = at-stand-at .before .before .before .before .before in
     let a = d .args in
-    write-cell (a .tops .now) (a .bottoms .now) (a .spans .now) (d .pre .0) (a .i) (a .j) (d .pre .1) (d .pre .2) (a .loads .now) _
+    write-cell (a .tops .now) (a .bottoms .now) (a .places .now) (d .pre .0) (a .i) (a .j) (d .pre .1) (d .pre .2) (a .loads .now) _
     (at-loads-at .loads-at .result)
     (at-possible-loads .possible-loads .result)
     (d .pre .3)
     (at-loads-at .loads-at .ensures
-    ∙ ap₂ (λ (x y : Stand). loadsAt (a .spans .now) (record { top = x; bottom = y })) (at-stand-at .stand-at .ensures)
+    ∙ ap₂ (λ (x y : Stand). loadsAt (a .places .now) (record { top = x; bottom = y })) (at-stand-at .stand-at .ensures)
     (at-stand-at2 .stand-at2 .ensures))
     (at-possible-loads .possible-loads .ensures)
     (c .before .before .put-loads .ensures)

@@ -10,12 +10,12 @@ use Rattle.load.proofs.cells.write_row.Statement.{statement}
 use Rattle.load.proofs.cells.write_row.Tie as tie
 
 abbrev Inv-loop : tie.InvT-loop
-Inv-loop tops bottoms spans i loads₀ j₀ loads j =
+Inv-loop tops bottoms places i loads₀ j₀ loads j =
     (j ≤ length bottoms + 1)
     × Written tops bottoms loads₀ loads (λ (x y : ℕ). (x ≡ i) × (y < j))
 
 abbrev μ-loop : tie.MeasureT-loop
-μ-loop tops bottoms spans i loads₀ j₀ loads j = length bottoms + 1 - j
+μ-loop tops bottoms places i loads₀ j₀ loads j = length bottoms + 1 - j
 
 loop-holds : tie.Need-loop-holds Inv-loop μ-loop
 loop-holds c = (omega arith, written-none _ _ _ _ (λ x y r. omega (arith, r .1)))

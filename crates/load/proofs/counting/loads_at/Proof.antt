@@ -11,10 +11,10 @@ use Rattle.load.proofs.counting.loads_at.Statement.{statement}
 use Rattle.load.proofs.counting.loads_at.Tie as tie
 
 abbrev Inv-loop : tie.InvT-loop
-Inv-loop spans c l₀ m₀ n l m = (m ≤ n) × (l ≡ loadsTo spans c m)
+Inv-loop places c l₀ m₀ n l m = (m ≤ n) × (l ≡ loadsTo places c m)
 
 abbrev μ-loop : tie.MeasureT-loop
-μ-loop spans c l₀ m₀ n l m = n - m
+μ-loop places c l₀ m₀ n l m = n - m
 
 loop-holds : tie.Need-loop-holds Inv-loop μ-loop
 loop-holds c = (omega arith, refl)
@@ -29,8 +29,8 @@ loop-again c =
     let a = start .args in
     let l = at-loop .loop in (
       omega arith,
-      c .with-net .ensures ∙ ap₂ (withNet (a .c)) (l .inv .1) (c .before .span-at .ensures) ∙ sym
-          (ap (loadsTo (a .spans .now) (a .c)) (add-one (l .m))),
+      c .with-net .ensures ∙ ap₂ (withNet (a .c)) (l .inv .1) (c .before .places-at .ensures) ∙ sym
+          (ap (loadsTo (a .places .now) (a .c)) (add-one (l .m))),
     )
 
 returns : tie.Need-returns Inv-loop μ-loop
@@ -38,8 +38,8 @@ unfolding loadsAt
 returns c =
     let a = c .before .before .before .args in
     let l = c .before .loop in
-    let all : l .m ≡ length (a .spans .now) / 5 = omega arith in
-    l .inv .1 ∙ ap (loadsTo (a .spans .now) (a .c)) all
+    let all : l .m ≡ length (a .places .now) / 5 = omega arith in
+    l .inv .1 ∙ ap (loadsTo (a .places .now) (a .c)) all
 
 pub loads-at-spec : {M : Type 1} → statement M
 loads-at-spec =

@@ -1,6 +1,6 @@
 -- `load::stand_at` meets its contract: the pin at place i has index i - 1.
 -- Assumes nothing.
-use Rattle.load.proofs.Places.{stand-some}
+use Rattle.load.proofs.Stands.{stand-some}
 use Prim.Native.Nat.{_-_}
 use borrow.Author.Needs.{needs}
 use Rattle.load.proofs.counting.stand_at.Statement.{statement}

@@ -1,0 +1,64 @@
+// The nets of a sheet's terminals.
+use sheet::Entry;
+use terminal::Record;
+ghost use mathlib.Core.Path.{_≡_};
+ghost use mathlib.Core.List.{_++_};
+ghost use Prim.Native.Nat.{_+_};
+ghost use lib.ListN.{length, drop};
+ghost use lib.Dec.{eqb};
+ghost use Rattle.channel.specs.Density.{any};
+ghost use Rattle.channel.specs.Cut.{nets as netsOf};
+ghost use Rattle.sheet.specs.Parts.{terminalsIn, entryIn};
+ghost use Rattle.nets.specs.Nets.{recordOr};
+
+// The record at a place, from 1, of a section; all 0 where there is none.
+pub fn terminal_at(part: &[u8], place: usize) -> Record
+    ensures { λ r. ⌜ r ≡ recordOr (entryIn (now (part .entry)) place) ⌝ }
+{
+    let entry = sheet::record_in(part, place);
+    match entry {
+        Entry::Terminal(r) => r,
+        Entry::Nothing => Record {
+            net: 0,
+            least: 0,
+            greatest: 0,
+            allowed: 0,
+        },
+    }
+}
+
+// The nets of all terminals, top then bottom.
+pub fn all_nets(top: &[u8], bottom: &[u8], p: usize, nets: &mut [u16])
+    requires { ⌜ (p ≡ length (terminalsIn (now top))) × (length (now nets) ≡ p + length (terminalsIn (now bottom))) ⌝ }
+    ensures { λ r. ⌜ now (nets .exit) ≡ netsOf (terminalsIn (now (top .entry)) ++ terminalsIn (now (bottom .entry))) ⌝ }
+{
+    fill_nets(top, &mut nets[..p]);
+    fill_nets(bottom, &mut nets[p..]);
+}
+
+// The nets of a section, in order.
+fn fill_nets(part: &[u8], nets: &mut [u16])
+    requires { ⌜ length (now nets) ≡ length (terminalsIn (now part)) ⌝ }
+    ensures { λ r. ⌜ now (nets .exit) ≡ netsOf (terminalsIn (now (part .entry))) ⌝ }
+{
+    let mut i = 0;
+    while i < nets.len() {
+        let r = terminal_at(part, i + 1);
+        nets[i] = r.net;
+        i += 1;
+    }
+}
+
+// Whether a net occurs from a place on.
+pub fn occurs(net: u16, nets: &[u16], from: usize) -> bool
+    ensures { λ r. ⌜ r ≡ any (eqb net) (drop from (now (nets .entry))) ⌝ }
+{
+    let mut i = from;
+    while i < nets.len() {
+        if net == nets[i] {
+            return true;
+        }
+        i += 1;
+    }
+    false
+}
