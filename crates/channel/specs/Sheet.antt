@@ -30,7 +30,7 @@ pub record Sheet : Type 0 where
   pub bottom : List Terminal
 
 abbrev pub sheetWith : ℕ → List Terminal → List Terminal → Sheet
-sheetWith l top bottom = record { columns = l; top = top; bottom = bottom }
+sheetWith l ts us = record { columns = l; top = ts; bottom = us }
 
 -- the terminals of one side
 abbrev pub terminals : Sheet → Side → List Terminal

@@ -6,6 +6,7 @@ use native.Mathlib.Omega.{arith}
 use mathlib.Core.Path.{_≡_}
 use mathlib.Core.Bool.{Bool, true, false}
 use lib.ListN.{length}
+use Rattle.channel.specs.Below.{anyBelow}
 use Rattle.channel.proofs.Below.{anyBelow-from, anyBelow-to}
 use Rattle.channel.specs.Sheet.{Sheet}
 use Rattle.channel.specs.Word.{hasTop, hasBottom}
@@ -47,7 +48,9 @@ module _ (s : Sheet) (d : ℕ) where
       → feasible s d ≡ true
   unfolding feasible
   feasible-from u v hu hv r =
-      anyBelow-from (suc (s .columns)) _ u (omega arith) (anyBelow-from (suc (s .columns)) _ v (omega arith) r)
+      let placed : ℕ → ℕ → Bool = λ u v. reach s d (length (s .top)) (length (s .bottom)) u v in
+      anyBelow-from (suc (s .columns)) (λ u. anyBelow (suc (s .columns)) (placed u)) u (omega arith)
+      (anyBelow-from (suc (s .columns)) (placed u) v (omega arith) r)
 
   -- and back
   pub feasible-some :
@@ -55,8 +58,9 @@ module _ (s : Sheet) (d : ℕ) where
       → (u : ℕ) × (v : ℕ) × (u ≤ s .columns) × (v ≤ s .columns) × (reach s d (length (s .top)) (length (s .bottom)) u v ≡ true)
   unfolding feasible
   feasible-some e =
-      let (u, hu, f) = anyBelow-to (suc (s .columns)) _ e in
-      let (v, hv, r) = anyBelow-to (suc (s .columns)) _ f in
+      let placed : ℕ → ℕ → Bool = λ u v. reach s d (length (s .top)) (length (s .bottom)) u v in
+      let (u, hu, f) = anyBelow-to (suc (s .columns)) (λ u. anyBelow (suc (s .columns)) (placed u)) e in
+      let (v, hv, r) = anyBelow-to (suc (s .columns)) (placed u) f in
       (u, v, omega arith, omega arith, r)
 
 -- all pins can be placed under a greater bound too

@@ -1,3 +1,3 @@
 mod Sections
-mod Visits
+mod Steps
 pub mod Laws

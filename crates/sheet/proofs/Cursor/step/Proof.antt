@@ -4,7 +4,7 @@ use mathlib.Core.Path.{_∙_}
 use Rattle.soundness.specs.Read.{read}
 use Rattle.sheet.specs.Parts.{shapeOf, entryAt}
 use Rattle.sheet.specs.Visits.{stepOf}
-use Rattle.sheet.proofs.Visits.{step-top, step-bottom, step-end}
+use Rattle.sheet.proofs.Steps.{step-top, step-bottom, step-end}
 use borrow.Author.Needs.{needs}
 use Rattle.sheet.proofs.Cursor.step.Statement.{statement}
 use Rattle.sheet.proofs.Cursor.step.Tie as tie
