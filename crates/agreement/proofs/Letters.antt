@@ -216,12 +216,15 @@ module _
             stand m = holds (suc c) (and-eq-true-iff (next (s .top) i (suc c) x) (more (suc c)) .0 m .1)
 
     -- the last bottom pin has a place left of the column, where the last top pin stands in u
+    abbrev atBottom : ℕ → ℕ → Bool
+    atBottom u v = next (s .bottom) j v y && reach s d i j u v
+
     abbrev someBottom : ℕ → Bool
-    someBottom u = anyBelow (suc c) (λ (v : ℕ). next (s .bottom) j v y && reach s d i j u v)
+    someBottom u = anyBelow (suc c) (atBottom u)
 
     bottom-held : (u : ℕ) → someBottom u ≡ true → Held i u
     bottom-held u e =
-        let (v, h, m) = anyBelow-to (suc c) _ e in
+        let (v, h, m) = anyBelow-to (suc c) (atBottom u) e in
         reach-held s d i j u v (and-eq-true-iff (next (s .bottom) j v y) (reach s d i j u v) .0 m .1) .0
 
     -- the column can be empty
@@ -251,12 +254,15 @@ module _
         (λ m. lt-ltb 0 j (some-pin j c (stand m)))
         ∙ sym (letterFits-nested s d c i j x y bottom)
       where
+        atTop : ℕ → Bool
+        atTop u = next (s .top) i u x && (next (s .bottom) j (suc c) y && reach s d i j u (suc c))
+
         there : Bool
-        there = anyBelow (suc c) (λ (u : ℕ). next (s .top) i u x && (next (s .bottom) j (suc c) y && reach s d i j u (suc c)))
+        there = anyBelow (suc c) atTop
 
         stand : there ≡ true → Held j (suc c)
         stand m =
-            let (u, h, e) = anyBelow-to (suc c) _ m in
+            let (u, h, e) = anyBelow-to (suc c) atTop m in
             let pin : (next (s .bottom) j (suc c) y && reach s d i j u (suc c)) ≡ true =
             and-eq-true-iff (next (s .top) i u x) (next (s .bottom) j (suc c) y && reach s d i j u (suc c)) .0 e .1 in
             reach-held s d i j u (suc c) (and-eq-true-iff (next (s .bottom) j (suc c) y) (reach s d i j u (suc c)) .0 pin .1) .1

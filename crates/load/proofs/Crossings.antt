@@ -22,7 +22,7 @@ use Rattle.places.specs.Places.{placesOf, placesList, placesAt, Listed}
 use Rattle.places.proofs.Listing.{places-at, length-places}
 use Rattle.load.specs.Counts.{cutOf, crossesAs, withNet, loadsTo, loadsAt}
 use Rattle.load.proofs.Stands.{side-left, side-here}
-use Rattle.places.proofs.Ends.{side-right}
+use Rattle.places.proofs.Sides.{side-right}
 
 -- a net crosses the column of a cut exactly if its ends say so
 crosses-as : (a : Letter) (tops bottoms : List ℕ) (i j : ℕ)

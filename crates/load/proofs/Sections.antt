@@ -2,11 +2,12 @@
 -- Assumes nothing.
 use Prim.Native.Nat.{ℕ, _+_, _≤_}
 use mathlib.Core.Path.{_≡_, sym, _∙_}
-use mathlib.Core.List.{List, _++_}
+use mathlib.Core.List.{List, _++_, map-append}
 use native.Mathlib.Omega.{arith}
 use lib.ListN.{length, take, drop, length-map, length-append}
 use lib.Seq.{take-at, drop-at}
 use Rattle.channel.specs.Sheet.{Terminal}
+use Rattle.channel.specs.Cut.{nets}
 use Rattle.sheet.specs.Parts.{terminalsIn}
 use Rattle.nets.specs.Nets.{netsIn}
 use Rattle.places.specs.Places.{TwoSides}
@@ -23,6 +24,17 @@ module _ (top bottom : List ℕ) (p q : ℕ) (tops : p ≡ length (terminalsIn t
 
   bottom-nets : length (netsIn bottom) ≡ q
   bottom-nets = length-section bottom ∙ sym bottoms
+
+  -- the nets of both, one behind the other, and the same at the front of a list
+  module _ (ns : List ℕ) (e : ns ≡ nets (terminalsIn top ++ terminalsIn bottom)) where
+    all-nets : ns ≡ netsIn top ++ netsIn bottom
+    all-nets = e ∙ map-append (λ (t : Terminal). t .net) (terminalsIn top) (terminalsIn bottom)
+
+    pub both-count : length ns ≡ p + q
+    both-count = rw (all-nets, length-append, top-nets, bottom-nets)
+
+    pub both-nets : (rest : List ℕ) → take (p + q) (ns ++ rest) ≡ netsIn top ++ netsIn bottom
+    both-nets rest = take-at ns rest (p + q) both-count ∙ all-nets
 
   -- what such a list says of the two sides
   module _ {ns : List ℕ} (both : ns ≡ netsIn top ++ netsIn bottom) where

@@ -10,7 +10,7 @@ use lib.Seq.{drop-cons}
 use lib.Dec.{leb·suc-suc}
 use Rattle.channel.specs.Cut.{has, leftOf, hereOf}
 use Rattle.places.specs.Places.{endsOf}
-use Rattle.places.proofs.Ends.{first-left}
+use Rattle.places.proofs.Sides.{first-left}
 use Rattle.load.specs.declared.counting.Stand.{Stand}
 use Rattle.load.specs.Counts.{standOf, leftTest, hereTest}
 

@@ -44,12 +44,12 @@ module _ (s : Sheet) (d : ℕ) where
   step-reach c empty k l t b r = r .rest
   step-reach c top k l t b r =
       rw (reach-top s d k l (suc c) b (omega arith))
-      (both-hold _ _ (le-leb _ d (r .within refl)) 
+      (both-hold _ _ (le-leb _ d (r .within refl))
       (anyBelow-from (suc c) (λ (t : ℕ). stands (s .top) (suc k) t (suc c) && reach s d k l t b) t (omega arith)
       (both-hold _ _ (r .top .fits refl) (r .rest))))
   step-reach c bottom k l t b r =
       rw (reach-bottom s d k l t (suc c) (omega arith))
-      (both-hold _ _ (le-leb _ d (r .within refl)) 
+      (both-hold _ _ (le-leb _ d (r .within refl))
       (anyBelow-from (suc c) (λ (b : ℕ). stands (s .bottom) (suc l) b (suc c) && reach s d k l t b) b (omega arith)
       (both-hold _ _ (r .bottom .fits refl) (r .rest))))
   step-reach c both k l t b r =

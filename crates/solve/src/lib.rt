@@ -1,10 +1,10 @@
 // The search over the two sections of a sound sheet.
+use entry::Grid;
 use pass::Outcome;
 use pass::Plan;
 use pass::place;
 use rules::read_rules;
 use sheet::Shape;
-use entry::Grid;
 ghost use Prim.Native.Nat.{_+_, _-_, _≤_};
 ghost use mathlib.Core.Path.{_≡_};
 ghost use mathlib.Core.List.{_++_};

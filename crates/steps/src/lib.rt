@@ -1,6 +1,6 @@
 // The numbers that are reached from a set by the steps of another.
-use bits::both;
 use bits::below;
+use bits::both;
 use bits::from;
 use bits::lowest;
 ghost use Prim.Native.Nat.{ℕ, _≤_, _<_};

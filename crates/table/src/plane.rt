@@ -1,8 +1,8 @@
 // Filling the table, plane by plane.
+use cells::write_word;
 use entry::Grid;
 use entry::Place;
 use entry::word;
-use cells::write_word;
 ghost use Prim.Native.Nat.{_+_, _*_, _≤_, _<_};
 ghost use mathlib.Core.Path.{_≡_};
 ghost use lib.ListN.{length};

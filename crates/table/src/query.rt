@@ -1,10 +1,10 @@
 // Questions to a filled table.
-use entry::Grid;
 use bits::bit;
 use bits::both;
 use bits::either;
-use cells::read_word;
 use bits::single;
+use cells::read_word;
+use entry::Grid;
 ghost use Prim.Native.Nat.{ℕ, _-_, _≤_, _<_};
 ghost use mathlib.Core.Path.{_≡_};
 ghost use mathlib.Core.Bool.{_&&_};

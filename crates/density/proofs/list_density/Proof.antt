@@ -12,7 +12,7 @@ use Rattle.channel.specs.Density.{maximumTo}
 use Rattle.sheet.specs.Parts.{terminalsIn}
 use Rattle.density.specs.Counted.{countedAt}
 use Rattle.nets.proofs.Nets.{length-nets}
-use Rattle.density.proofs.Greatest.{bytes-below, density-counted}
+use Rattle.density.proofs.Counted.{bytes-below, density-counted}
 use Rattle.density.proofs.list_density.Tie as tie
 
 slice-aggregate-all-nets : tie.Need-slice-aggregate-all-nets

@@ -8,7 +8,7 @@ use borrow.Author.Needs.{needs}
 use lib.ListN.{length, drop}
 use Rattle.places.specs.declared.Ends.{Ends}
 use Rattle.places.specs.Places.{endsFrom, endsOf}
-use Rattle.places.proofs.Ends.{ends-at, ends-done}
+use Rattle.places.proofs.Sides.{ends-at, ends-done}
 use Rattle.places.proofs.ends_of.Statement.{statement}
 use Rattle.places.proofs.ends_of.Tie as tie
 

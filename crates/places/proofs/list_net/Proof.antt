@@ -1,13 +1,11 @@
 -- `places::list_net` meets its contract: nothing is put where the net stands again, and its places where it does not.
 -- Assumes nothing.
 use mathlib.Core.Path.{sym, ap, _∙_}
-use Prim.Native.Nat.{ℕ, _+_}
+use Prim.Native.Nat.{ℕ}
 use mathlib.Core.List.{List}
 use native.Mathlib.Omega.{arith}
 use lib.ListN.{getD, take, drop, length-drop}
 use lib.Seq.{length-take-le}
-use lib.Dec.{eqb}
-use Rattle.channel.specs.Density.{any}
 use Rattle.places.specs.Places.{placesOf}
 use Rattle.places.proofs.Listing.{part-rest, put-none, put-one}
 use borrow.Author.Needs.{needs}
@@ -16,24 +14,24 @@ use Rattle.places.proofs.list_net.Tie as tie
 
 returns : tie.Need-returns
 returns c =
-    let a = c .before .before .before .before .before .before .args in
+    let a = c .before .before .before .before .before .args in
     let ns = a .nets .now in
     put-none (take (a .p) ns) (drop (a .p) ns) ns (a .m) (a .places .now) (a .k) (c .before .occurs .result) (c .before .occurs .ensures)
     (c .if1 .taken)
 
 slice-aggregate-places-of : tie.Need-slice-aggregate-places-of
-slice-aggregate-places-of c = sym (length-take-le _ _ (c .before .before .before .before .before .before .before .pre .0 .split))
+slice-aggregate-places-of c = sym (length-take-le _ _ (c .before .before .before .before .before .before .pre .0 .split))
 
 places-of-requires : tie.Need-places-of-requires
 places-of-requires c κs =
-    let d = c .before .before .before .before .before .before .before .before in
+    let d = c .before .before .before .before .before .before .before in
     let ns = d .args .nets .now in
     let p = d .pre .0 in
     (omega (arith, length-take-le (d .args .p) ns (p .split), p .top), rw (part-rest ns (d .args .p), length-drop) (omega (arith, p .bottom)))
 
 returns-2 : tie.Need-returns-2
 returns-2 c =
-    let a = c .before .before .before .before .before .before .before .before .before .before .before .before .before .args in
+    let a = c .before .before .before .before .before .before .before .before .before .before .before .before .args in
     let ns = a .nets .now in
     let n = getD ns (a .m) 0 in
     let s = c .before .before .before .before .before .before .before .before .occurs in
@@ -48,10 +46,6 @@ pub list-net-spec : {M : Type 1} → statement M
 list-net-spec =
     tie.close
     (tie.spec
-    (λ c. search needs)
-    (λ c. search needs)
-    (λ c. search needs)
-    (λ c. search needs)
     (λ c. search needs)
     (λ c. search needs)
     (λ c. search needs)
