@@ -49,16 +49,15 @@ fn fill_nets(part: &[u8], nets: &mut [u16])
     }
 }
 
-// Whether a net occurs from a place on.
+// Whether a net occurs from a place on. The loop has no branch, so that the compiler can take many pins at a time.
 pub fn occurs(net: u16, nets: &[u16], from: usize) -> bool
     ensures { λ r. ⌜ r ≡ any (eqb net) (drop from (now (nets .entry))) ⌝ }
 {
+    let mut found = false;
     let mut i = from;
     while i < nets.len() {
-        if net == nets[i] {
-            return true;
-        }
+        found = found | (net == nets[i]);
         i += 1;
     }
-    false
+    found
 }

@@ -1,11 +1,11 @@
--- `nets::occurs` meets its contract. The loop's invariant: the net occurs exactly if it does among the places that are left.
--- The measure is how many they are.
+-- `nets::occurs` meets its contract. The loop's invariant: the net occurs exactly if it was found so far, or does among the places that
+-- are left. The measure is how many they are.
 -- Assumes nothing.
 use Prim.Native.Nat.{_-_}
 use mathlib.Core.Path.{_≡_, refl, sym, _∙_, ap}
+use mathlib.Core.Bool.{Bool, _||_, or-assoc, or-false}
 use native.Mathlib.Omega.{arith}
-use borrow.Author.Tests.{eq-eqb, ne-eqb}
-use lib.ListN.{length, drop, drop-of-length-le}
+use lib.ListN.{length, getD, drop, drop-of-length-le}
 use lib.Dec.{eqb}
 use Rattle.channel.specs.Density.{any}
 use Rattle.nets.proofs.Nets.{any-more}
@@ -13,28 +13,27 @@ use Rattle.nets.proofs.occurs.Statement.{statement}
 use Rattle.nets.proofs.occurs.Tie as tie
 
 abbrev Inv-loop : tie.InvT-loop
-Inv-loop net nets from i₀ i = any (eqb net) (drop from nets) ≡ any (eqb net) (drop i nets)
+Inv-loop net nets from found₀ i₀ found i = any (eqb net) (drop from nets) ≡ (found || any (eqb net) (drop i nets))
 
 abbrev μ-loop : tie.MeasureT-loop
-μ-loop net nets from i₀ i = length nets - i
-
-loop-holds : tie.Need-loop-holds Inv-loop μ-loop
-loop-holds c = refl
-
-returns : tie.Need-returns Inv-loop μ-loop
-returns c = let a = c .before .before .before .before .args in
-    let l = c .before .before .before .loop in
-    sym (l .inv ∙ any-more (eqb (a .net)) (a .nets .now) (l .i) (c .before .before .loop-test .taken) ∙ rw (eq-eqb _ _ (c .if1 .taken)))
+μ-loop net nets from found₀ i₀ found i = length nets - i
 
 loop-again : tie.Need-loop-again Inv-loop μ-loop
-loop-again c = let a = c .before .before .before .before .args in
-    let l = c .before .before .before .loop in
-    l .inv ∙ any-more (eqb (a .net)) (a .nets .now) (l .i) (c .before .before .loop-test .taken) ∙ rw (ne-eqb _ _ (c .if1 .left))
+loop-again c =
+    let a = c .before .before .before .args in
+    let l = c .before .before .loop in
+    l .inv
+    ∙ ap (λ (b : Bool). l .found || b) (any-more (eqb (a .net)) (a .nets .now) (l .i) (c .before .loop-test .taken))
+    ∙ sym (or-assoc (l .found) (eqb (a .net) (getD (a .nets .now) (l .i) 0)) _)
 
-returns-2 : tie.Need-returns-2 Inv-loop μ-loop
-returns-2 c = let a = c .before .before .args in
+returns : tie.Need-returns Inv-loop μ-loop
+returns c =
+    let a = c .before .before .args in
     let l = c .before .loop in
-    sym (l .inv ∙ ap (any (eqb (a .net))) (drop-of-length-le (a .nets .now) (c .loop-test .left)))
+    sym
+    (l .inv
+    ∙ ap (λ (b : Bool). l .found || b) (ap (any (eqb (a .net))) (drop-of-length-le (a .nets .now) (c .loop-test .left)))
+    ∙ or-false (l .found))
 
 pub occurs-spec : {M : Type 1} → statement M
 occurs-spec =
@@ -42,11 +41,10 @@ occurs-spec =
     (tie.spec
     Inv-loop
     μ-loop
-    loop-holds
+    (λ c. refl)
     (λ c. omega arith)
     (λ c. omega arith)
-    returns
     (λ c. omega arith)
     (λ c. omega arith)
     loop-again
-    returns-2)
+    returns)
