@@ -1,15 +1,16 @@
 -- What the layers above may use of the sheet layer: laws of its definitions that say nothing of where a byte stands.
 -- Assumes nothing.
-use Prim.Native.Nat.{ℕ, zero, suc, _+_, _-_, _≤_}
+use Prim.Native.Nat.{ℕ, zero, suc, _+_, _≤_}
 use mathlib.Core.Path.{_≡_, refl, sym, _∙_, ap}
 use mathlib.Core.List.{List, [], _∷_, _++_}
 use native.Mathlib.Omega.{arith}
 use lib.ListN.{length}
 use Rattle.channel.specs.Sheet.{Terminal, Sheet}
+use Rattle.format.specs.declared.Side.{Side}
+use Rattle.format.specs.declared.Side.the-variants.{Top, Bottom}
+use Rattle.format.specs.Format.{ofSide}
+use Rattle.format.specs.Parts.{bytesOf, terminalsIn}
 use Rattle.soundness.specs.declared.Checked.the-variants.{Sound}
-use Rattle.soundness.specs.declared.Side.{Side}
-use Rattle.soundness.specs.declared.Side.the-variants.{Top, Bottom}
-use Rattle.soundness.specs.Format.{ofSide}
 use Rattle.soundness.specs.Check.{checkOf}
 use Rattle.soundness.specs.Read.{sheetOf, read}
 use Rattle.soundness.specs.Read.Read.{sound}
@@ -17,7 +18,7 @@ use Rattle.sheet.specs.declared.Cursor.{Cursor}
 use Rattle.sheet.specs.declared.Entry.the-variants.{Nothing}
 use Rattle.sheet.specs.declared.Layout.{Layout}
 use Rattle.sheet.specs.declared.Opened.the-variants.{Sound as Laid}
-use Rattle.sheet.specs.Parts.{shape, shapeAs, shapeOf, openedOf, bytesOf, sectionOf, nth, entryOf, terminalsIn, entryIn}
+use Rattle.sheet.specs.Parts.{shape, shapeAs, shapeOf, openedOf, sectionOf, nth, entryOf, entryIn}
 use Rattle.sheet.specs.Visits.{visits, allVisits, stepAs, stepOf}
 use Rattle.soundness.proofs.Laws.{sound-read}
 use Rattle.sheet.proofs.Sections.{opened-sound, layout-shape, sound-section}

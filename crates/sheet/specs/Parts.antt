@@ -1,20 +1,18 @@
 -- The parts of a sheet's bytes: its shape, one side's section, one terminal's record (document 01, "The sheet").
 -- Assumes nothing.
-use Prim.Native.Nat.{ℕ, zero, suc, _+_, _*_, _/_, min}
-use mathlib.Core.Path.{_≡_}
+use Prim.Native.Nat.{ℕ, zero, suc, _+_, _*_}
 use mathlib.Core.List.{List, [], _∷_}
-use lib.ListN.{length, take, drop}
-use denote.Ref.{RefT, now}
+use lib.ListN.{length}
 use Rattle.channel.specs.Sheet.{Terminal, Sheet, sheetWith, terminals}
 use Rattle.channel.specs.Sheet as channel
 use Rattle.terminal.specs.Terminal.{recordOf}
+use Rattle.format.specs.declared.Side.{Side}
+use Rattle.format.specs.declared.Side.the-variants.{Top, Bottom}
+use Rattle.format.specs.declared.Trailer.{Trailer}
+use Rattle.format.specs.Format.{trailerOf, partOf}
+use Rattle.format.specs.Parts.{bytesOf, terminalsIn}
 use Rattle.soundness.specs.declared.Checked.{Checked}
 use Rattle.soundness.specs.declared.Checked.the-variants.{Sound, Refused}
-use Rattle.soundness.specs.declared.Side.{Side}
-use Rattle.soundness.specs.declared.Side.the-variants.{Top, Bottom}
-use Rattle.soundness.specs.declared.Part.{Part}
-use Rattle.soundness.specs.declared.Trailer.{Trailer}
-use Rattle.soundness.specs.Format.{recordSize, terminalsFrom, trailerOf, partOf}
 use Rattle.soundness.specs.Check.{checkOf}
 use Rattle.soundness.specs.Read.{Read, read}
 use Rattle.soundness.specs.Read.Read.{sound, refused}
@@ -63,18 +61,6 @@ openedAs b (Refused why) = Unsound why
 unfoldable pub openedOf : List ℕ → Opened
 openedOf b = openedAs b (checkOf b)
 
--- the caller's own slice from an offset on, and not a copy: the part starts in the same memory, so many bytes further
-pub record OwnPart (whole part : RefT (List ℕ)) (offset : ℕ) (contents : List ℕ) : Type 0 where
-  pub place : part .ptr ≡ (whole .ptr .0, whole .ptr .1 + offset)
-  pub bytes : now part ≡ contents
-
--- the bytes of a part, as far as they lie in b; a part that would start behind the end is the empty one at the end
-unfoldable pub bytesOf : List ℕ → Part → List ℕ
-bytesOf b part = take (recordSize * part .count) (drop (part .at) b)
-
-abbrev pub offsetOf : List ℕ → Part → ℕ
-offsetOf b part = min (part .at) (length b)
-
 -- "that section of its own sheet. A refused sheet gives the empty part; so does a side with no terminals"
 abbrev pub sectionAs : List ℕ → Side → Checked → List ℕ
 sectionAs b side Sound = bytesOf b (partOf (trailerOf b) side)
@@ -91,6 +77,10 @@ sectionAtAs b side (Refused why) = 0
 unfoldable pub sectionAt : List ℕ → Side → ℕ
 sectionAt b side = sectionAtAs b side (checkOf b)
 
+-- the sheet of a channel's length and two sections
+abbrev pub sheetIn : ℕ → List ℕ → List ℕ → Sheet
+sheetIn l top bottom = sheetWith l (terminalsIn top) (terminalsIn bottom)
+
 -- the record at a place, from 1
 abbrev pub nth : List Terminal → ℕ → Entry
 nth [] k = Nothing
@@ -102,13 +92,6 @@ entryOf ts zero = Nothing
 entryOf ts (suc k) = nth ts k
 
 -- of a section's bytes
-unfoldable pub terminalsIn : List ℕ → List Terminal
-terminalsIn part = terminalsFrom part 0 (length part / recordSize)
-
--- the sheet of a channel's length and two sections
-abbrev pub sheetIn : ℕ → List ℕ → List ℕ → Sheet
-sheetIn l top bottom = sheetWith l (terminalsIn top) (terminalsIn bottom)
-
 unfoldable pub entryIn : List ℕ → ℕ → Entry
 entryIn part place = entryOf (terminalsIn part) place
 

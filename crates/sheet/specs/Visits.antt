@@ -5,8 +5,8 @@ use Prim.Native.Nat.{ℕ, zero, suc, _+_}
 use mathlib.Core.List.{List, [], _∷_, _++_}
 use Rattle.channel.specs.Sheet.{Terminal, Sheet}
 use Rattle.terminal.specs.Terminal.{recordOf}
-use Rattle.soundness.specs.declared.Side.{Side}
-use Rattle.soundness.specs.declared.Side.the-variants.{Top, Bottom}
+use Rattle.format.specs.declared.Side.{Side}
+use Rattle.format.specs.declared.Side.the-variants.{Top, Bottom}
 use Rattle.soundness.specs.Read.{Read, read}
 use Rattle.soundness.specs.Read.Read.{sound, refused}
 use Rattle.sheet.specs.declared.Cursor.{Cursor}

@@ -3,15 +3,13 @@
 mod parts;
 mod visits;
 
-pub use parts::count_in;
+use format::Part;
+use format::Side;
 pub use parts::open;
-pub use parts::part_in;
 pub use parts::record_at;
 pub use parts::record_in;
 pub use parts::section;
 pub use parts::shape_of;
-use soundness::Part;
-use soundness::Side;
 use terminal::Record;
 use terminal::Refusal;
 

@@ -3,19 +3,20 @@ use crate::Entry;
 use crate::Layout;
 use crate::Opened;
 use crate::Shape;
+use format::Part;
+use format::Side;
+use format::count_in;
+use format::part_in;
+use format::read_trailer;
+use format::terminal_at;
 use soundness::Checked;
-use soundness::Part;
-use soundness::RECORD;
-use soundness::Side;
 use soundness::check;
-use soundness::read_record;
-use soundness::read_trailer;
 ghost use mathlib.Core.Path.{_≡_};
-ghost use Prim.Native.Nat.{_+_, _*_, _≤_, min};
-ghost use lib.ListN.{length};
-ghost use Rattle.soundness.specs.Format.{recordSize, ofSide};
+ghost use Prim.Native.Nat.{_≤_};
+ghost use Rattle.format.specs.Format.{ofSide};
+ghost use Rattle.format.specs.Parts.{OwnPart};
 ghost use Rattle.soundness.specs.Check.{checkOf};
-ghost use Rattle.sheet.specs.Parts.{cellsOf, layoutOf, openedOf, shapeOf, OwnPart, offsetOf, bytesOf, sectionAt, sectionOf, terminalsIn, entryIn, entryAt};
+ghost use Rattle.sheet.specs.Parts.{cellsOf, layoutOf, openedOf, shapeOf, sectionAt, sectionOf, entryIn, entryAt};
 
 // Checks the sheet, and gives all that is needed to read a sound one further: nothing of it asks for a second check.
 pub fn open(s: &[u8]) -> Opened
@@ -75,33 +76,6 @@ pub fn shape_of(s: &[u8]) -> Shape
     }
 }
 
-fn smaller(a: usize, b: usize) -> usize
-    ensures { λ r. ⌜ r ≡ min a b ⌝ }
-{
-    if a < b { a } else { b }
-}
-
-// Where so many records from `at` on end, or the file of `len` bytes does.
-fn end_of(len: usize, at: usize, count: usize) -> usize
-    requires { ⌜ at ≤ len ⌝ }
-    ensures { λ r. ⌜ r ≡ min (at + recordSize * count) len ⌝ }
-{
-    if count <= (len - at) / RECORD {
-        at + RECORD * count
-    } else {
-        len
-    }
-}
-
-// The records of a part, as far as they lie in the bytes, which may be any.
-pub fn part_in(s: &[u8], part: Part) -> &[u8]
-    ensures { λ r. ⌜ OwnPart (s .entry) r (offsetOf (now (s .entry)) part) (bytesOf (now (s .entry)) part) ⌝ }
-{
-    let at = smaller(part.at, s.len());
-    let end = end_of(s.len(), at, part.count);
-    &s[at..end]
-}
-
 // Of two parts, that of a side.
 fn of_side(top: Part, bottom: Part, side: Side) -> Part
     ensures { λ r. ⌜ r ≡ ofSide top bottom side ⌝ }
@@ -123,13 +97,6 @@ pub fn section(s: &[u8], side: Side) -> &[u8]
     }
 }
 
-// How many terminals a section has.
-pub fn count_in(part: &[u8]) -> usize
-    ensures { λ r. ⌜ r ≡ length (terminalsIn (now (part .entry))) ⌝ }
-{
-    part.len() / RECORD
-}
-
 // The record at a place, from 1, of a section.
 pub fn record_in(part: &[u8], place: usize) -> Entry
     ensures { λ r. ⌜ r ≡ entryIn (now (part .entry)) place ⌝ }
@@ -138,8 +105,8 @@ pub fn record_in(part: &[u8], place: usize) -> Entry
         return Entry::Nothing;
     }
     let i = place - 1;
-    if i < part.len() / RECORD {
-        Entry::Terminal(read_record(part, RECORD * i))
+    if i < count_in(part) {
+        Entry::Terminal(terminal_at(part, i))
     } else {
         Entry::Nothing
     }

@@ -5,7 +5,7 @@ use crate::Step;
 use crate::Visit;
 use crate::parts::record_at;
 use crate::parts::shape_of;
-use soundness::Side;
+use format::Side;
 ghost use mathlib.Core.Path.{_≡_};
 ghost use Rattle.sheet.specs.Parts.{entryAt};
 ghost use Rattle.sheet.specs.Visits.{start, stepOf, visitOf};

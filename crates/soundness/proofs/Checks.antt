@@ -1,40 +1,34 @@
--- Laws of the sheet check: one record more, and what a sound sheet's trailer says.
+-- Laws of the sheet check: one terminal more, and what a sound sheet's trailer says.
 -- Assumes nothing.
-use Prim.Native.Nat.{ℕ, suc, _+_, _-_, _*_, _≤_, _<_}
+use Prim.Native.Nat.{ℕ, _+_, _*_, _≤_, _<_}
 use mathlib.Core.Path.{_≡_, refl, sym, _∙_, ap}
-use mathlib.Core.List.{List, _∷_}
+use mathlib.Core.List.{List}
 use mathlib.Core.Bool.{Bool, true, false, not, _||_, true≢false, and-eq-true-iff}
 use native.Mathlib.Omega.{arith}
-use lib.ListN.{length}
+use native.Mathlib.Numerals.{add-one}
+use lib.ListN.{length, getD, drop}
+use lib.Seq.{drop-cons}
 use lib.Dec.{eqb, ltb}
 use borrow.Author.Tests.{ltb-false, eqb-true, eqb-false, not-false}
+use Rattle.channel.specs.Sheet.{Terminal, noTerminal}
 use Rattle.terminal.specs.declared.Refusal.{Refusal}
 use Rattle.terminal.specs.declared.Refusal.the-variants.{Short, Mark, Length, Count, Layout}
+use Rattle.format.specs.declared.Side.{Side}
+use Rattle.format.specs.declared.Side.the-variants.{Top, Bottom}
+use Rattle.format.specs.declared.Part.{Part}
+use Rattle.format.specs.declared.Trailer.{Trailer}
+use Rattle.format.specs.Format.{recordSize, trailerSize, trailerOf, partOf, hasMark, CP}
+use Rattle.format.specs.Parts.{bytesOf, terminalsIn}
 use Rattle.soundness.specs.declared.Checked.{Checked}
 use Rattle.soundness.specs.declared.Checked.the-variants.{Sound, Refused}
-use Rattle.soundness.specs.declared.Side.{Side}
-use Rattle.soundness.specs.declared.Side.the-variants.{Top, Bottom}
-use Rattle.soundness.specs.declared.Part.{Part}
-use Rattle.soundness.specs.declared.Trailer.{Trailer}
-use Rattle.soundness.specs.Format.{terminalAt, terminalsFrom, trailerOf, partOf, hasMark, CP}
 use Rattle.soundness.specs.Check.{refuse, _orElse_, follows, laidOut, trailerCheck, formOf, terminalCheck, sideCheck, terminalsOf, checkOf}
 
--- the first of the records that are left, and those behind it
-pub terminals-more :
-    (b : List ℕ) (at count i : ℕ) → i < count
-    → terminalsFrom b at (count - i) ≡ terminalAt b at ∷ terminalsFrom b (at + 12) (count - (i + 1))
-unfolding terminalsFrom
-terminals-more b at count i h = rw less
-  where
-    less : count - i ≡ suc (count - (i + 1))
-    less = omega arith
-
--- the check of the records that are left is that of the first, then of those behind it
+-- the check of the terminals that are left is that of the first, then of those behind it
 pub side-more :
-    (columns : ℕ) (isFirst : Bool) (b : List ℕ) (at count i : ℕ) → i < count
-    → sideCheck columns isFirst (terminalsFrom b at (count - i))
-    ≡ (terminalCheck columns isFirst (terminalAt b at) orElse sideCheck columns false (terminalsFrom b (at + 12) (count - (i + 1))))
-side-more columns isFirst b at count i h = ap (sideCheck columns isFirst) (terminals-more b at count i h)
+    (columns : ℕ) (isFirst : Bool) (ts : List Terminal) (i : ℕ) → i < length ts
+    → sideCheck columns isFirst (drop i ts)
+    ≡ (terminalCheck columns isFirst (getD ts i noTerminal) orElse sideCheck columns false (drop (i + 1) ts))
+side-more columns isFirst ts i h = rw (add-one i) (ap (sideCheck columns isFirst) (drop-cons ts i noTerminal h))
 
 -- where nothing is refused, neither of two checks refuses
 pub orElse-sound : (a b : Checked) → (a orElse b) ≡ Sound → (a ≡ Sound) × (b ≡ Sound)
@@ -51,25 +45,25 @@ or-false true b h = absurd (true≢false h)
 or-false false b h = (refl, h)
 
 -- of two sections that fill a file before its trailer, the one that follows and the one that starts it end in the file
-module _ (first second : Part) (len : ℕ) (size : len ≡ 12 * (first .count + second .count) + 12) where
-  follows-room : follows first second ≡ true → (first .at + 12 * first .count ≤ len) × (second .at + 12 * second .count ≤ len)
+module _ (first second : Part) (len : ℕ) (size : len ≡ recordSize * (first .count + second .count) + trailerSize) where
+  follows-room : follows first second ≡ true → (first .at + recordSize * first .count ≤ len) × (second .at + recordSize * second .count ≤ len)
   follows-room h =
-      let (z, e) = and-eq-true-iff (eqb (first .at) 0) (eqb (second .at) (12 * first .count)) .0 h in
+      let (z, e) = and-eq-true-iff (eqb (first .at) 0) (eqb (second .at) (recordSize * first .count)) .0 h in
       let z' : first .at ≡ 0 = eqb-true (first .at) 0 z in
-      let e' : second .at ≡ 12 * first .count = eqb-true (second .at) (12 * first .count) e in
+      let e' : second .at ≡ recordSize * first .count = eqb-true (second .at) (recordSize * first .count) e in
       (omega arith, omega arith)
 
 laid-out-room :
     (top bottom : Part) (len : ℕ) → laidOut top bottom len ≡ true
-    → (top .at + 12 * top .count ≤ len) × (bottom .at + 12 * bottom .count ≤ len)
+    → (top .at + recordSize * top .count ≤ len) × (bottom .at + recordSize * bottom .count ≤ len)
 unfolding laidOut
 laid-out-room top bottom len h =
-    let (n, either) = and-eq-true-iff (eqb len (12 * (top .count + bottom .count) + 12)) (follows top bottom || follows bottom top) .0 h in
-    by-order (eqb-true len (12 * (top .count + bottom .count) + 12) n) (follows top bottom) refl either
+    let (n, either) = and-eq-true-iff (eqb len (recordSize * (top .count + bottom .count) + trailerSize)) (follows top bottom || follows bottom top) .0 h in
+    by-order (eqb-true len (recordSize * (top .count + bottom .count) + trailerSize) n) (follows top bottom) refl either
   where
     by-order :
-        len ≡ 12 * (top .count + bottom .count) + 12 → (t : Bool) → follows top bottom ≡ t → (t || follows bottom top) ≡ true
-        → (top .at + 12 * top .count ≤ len) × (bottom .at + 12 * bottom .count ≤ len)
+        len ≡ recordSize * (top .count + bottom .count) + trailerSize → (t : Bool) → follows top bottom ≡ t → (t || follows bottom top) ≡ true
+        → (top .at + recordSize * top .count ≤ len) × (bottom .at + recordSize * bottom .count ≤ len)
     by-order size true e either = follows-room top bottom len size e
     by-order size false e either =
         let (b, t) = follows-room bottom top len (omega arith) either in
@@ -77,16 +71,16 @@ laid-out-room top bottom len h =
 
 -- what 1 to 5 leave of the trailer: its bytes are there, its numbers are within their limits, and both sections lie in the file
 pub record Formed (b : List ℕ) : Type 0 where
-  pub long : 12 ≤ length b
+  pub long : trailerSize ≤ length b
   pub columns : (0 < trailerOf b .columns) × (trailerOf b .columns ≤ 64)
   pub count : (side : Side) → partOf (trailerOf b) side .count ≤ 64
-  pub room : (side : Side) → partOf (trailerOf b) side .at + 12 * partOf (trailerOf b) side .count ≤ length b
+  pub room : (side : Side) → partOf (trailerOf b) side .at + recordSize * partOf (trailerOf b) side .count ≤ length b
 
 pub formed : (b : List ℕ) → formOf b ≡ Sound → Formed b
 unfolding formOf trailerCheck
 formed b h =
     let t = trailerOf b in
-    let (short, h₂) = orElse-sound (refuse (ltb (length b) 12) Short) _ h in
+    let (short, h₂) = orElse-sound (refuse (ltb (length b) trailerSize) Short) _ h in
     let (mark, h₃) = orElse-sound (refuse (not (hasMark b CP)) Mark) _ h₂ in
     let (columns, h₄) = orElse-sound (refuse (eqb (t .columns) 0 || ltb 64 (t .columns)) Length) _ h₃ in
     let (counts, layout) = orElse-sound (refuse (ltb 64 (t .top .count) || ltb 64 (t .bottom .count)) Count) _ h₄ in
@@ -95,7 +89,7 @@ formed b h =
     let (top, bottom) = laid-out-room (t .top) (t .bottom) (length b) (not-false _ (refuse-sound _ Layout layout)) in
     let positive : t .columns ≡ 0 → ⊥ = eqb-false (t .columns) 0 c₁ in
     record {
-      long = ltb-false (length b) 12 (refuse-sound _ Short short);
+      long = ltb-false (length b) trailerSize (refuse-sound _ Short short);
       columns = (omega (arith, positive), ltb-false 64 (t .columns) c₂);
       count = elim [ Top ↦ ltb-false 64 (t .top .count) p | Bottom ↦ ltb-false 64 (t .bottom .count) q ];
       room = elim [ Top ↦ top | Bottom ↦ bottom ];
@@ -119,13 +113,13 @@ module _ (b : List ℕ) (r : Checked) where
   unfolding checkOf
   form-refuses why answer e = e ∙ rw (sym answer ∙ e)
 
-  module _ (t : Trailer) (trailer : t ≡ trailerOf b) (form : formOf b ≡ Sound) where
-    pub top-refuses : (why : Refusal) → r ≡ sideCheck (t .columns) true (terminalsOf b (t .top)) → r ≡ Refused why → r ≡ checkOf b
+  module _ (t : Trailer) (trailer : t ≡ trailerOf b) (form : formOf b ≡ Sound) (top : List ℕ) (isTop : top ≡ bytesOf b (t .top)) where
+    pub top-refuses : (why : Refusal) → r ≡ sideCheck (t .columns) true (terminalsIn top) → r ≡ Refused why → r ≡ checkOf b
     unfolding checkOf
-    top-refuses why answer e = e ∙ rw (form, ← trailer, sym answer ∙ e)
+    top-refuses why answer e = e ∙ rw (form, ← trailer, ← isTop, sym answer ∙ e)
 
     pub bottom-answers :
-        sideCheck (t .columns) true (terminalsOf b (t .top)) ≡ Sound → r ≡ sideCheck (t .columns) true (terminalsOf b (t .bottom))
-        → r ≡ checkOf b
+        sideCheck (t .columns) true (terminalsIn top) ≡ Sound → (bottom : List ℕ) → bottom ≡ bytesOf b (t .bottom)
+        → r ≡ sideCheck (t .columns) true (terminalsIn bottom) → r ≡ checkOf b
     unfolding checkOf
-    bottom-answers top answer = rw (form, ← trailer, top) answer
+    bottom-answers sound bottom isBottom answer = rw (form, ← trailer, ← isTop, sound, ← isBottom) answer

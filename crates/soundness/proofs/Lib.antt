@@ -1,5 +1,3 @@
-mod Fields
-pub mod Records
 pub mod Checks
 mod Sounds
 pub mod Laws

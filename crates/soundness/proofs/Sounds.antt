@@ -12,15 +12,15 @@ use Rattle.channel.specs.Sheet.{Terminal, Sheet, SoundTerminal, SoundFrom, dist
 use Rattle.terminal.specs.declared.Refusal.{Refusal}
 use Rattle.terminal.specs.declared.Refusal.the-variants.{Net, Distance, Beyond}
 use Rattle.terminal.specs.Refusals.{numberOf}
+use Rattle.format.specs.declared.Side.the-variants.{Top, Bottom}
+use Rattle.format.specs.Format.{trailerOf}
+use Rattle.format.proofs.Records.{part-terminals}
 use Rattle.soundness.specs.declared.Checked.{Checked}
 use Rattle.soundness.specs.declared.Checked.the-variants.{Sound, Refused}
-use Rattle.soundness.specs.declared.Side.the-variants.{Top, Bottom}
-use Rattle.soundness.specs.Format.{trailerOf}
 use Rattle.soundness.specs.Check.{refuse, terminalCheck, sideCheck, terminalsOf, checkOf}
 use Rattle.soundness.specs.Read.{readAs, sheetOf, read}
 use Rattle.soundness.specs.Read.Read.{sound, refused}
 use Rattle.soundness.proofs.Checks.{orElse-sound, refuse-sound, whole}
-use Rattle.soundness.proofs.Records.{length-terminals}
 
 -- a terminal that 6, 7 and 8 leave is sound
 terminal-sound : (l : ℕ) (isFirst : Bool) (t : Terminal) → terminalCheck l isFirst t ≡ Sound → SoundTerminal l isFirst t
@@ -49,8 +49,10 @@ checked-sound b h =
     let l = trailerOf b .columns in
     record {
       columns = w .form .columns;
-      counts =
-          (rw length-terminals (w .form .count Top), rw length-terminals (w .form .count Bottom));
+      counts = (
+        rw (part-terminals b (trailerOf b .top) (w .form .room Top)) (w .form .count Top),
+        rw (part-terminals b (trailerOf b .bottom) (w .form .room Bottom)) (w .form .count Bottom),
+      );
       top = side-sound l true (terminalsOf b (trailerOf b .top)) (w .side Top);
       bottom = side-sound l true (terminalsOf b (trailerOf b .bottom)) (w .side Bottom);
     }

@@ -8,11 +8,12 @@ use lib.Dec.{ltb, eqb}
 use Rattle.channel.specs.Sheet.{Terminal, namesAbove, distances?}
 use Rattle.terminal.specs.declared.Refusal.{Refusal}
 use Rattle.terminal.specs.declared.Refusal.the-variants.{Short, Mark, Length, Count, Layout, Net, Distance, Beyond}
+use Rattle.format.specs.declared.Part.{Part}
+use Rattle.format.specs.declared.Trailer.{Trailer}
+use Rattle.format.specs.Format.{recordSize, trailerSize, hasMark, CP, trailerOf}
+use Rattle.format.specs.Parts.{bytesOf, terminalsIn}
 use Rattle.soundness.specs.declared.Checked.{Checked}
 use Rattle.soundness.specs.declared.Checked.the-variants.{Sound, Refused}
-use Rattle.soundness.specs.declared.Part.{Part}
-use Rattle.soundness.specs.declared.Trailer.{Trailer}
-use Rattle.soundness.specs.Format.{recordSize, trailerSize, hasMark, CP, trailerOf, terminalsFrom}
 
 -- refused for this reason when the test holds
 abbrev pub refuse : Bool → Refusal → Checked
@@ -61,9 +62,9 @@ abbrev pub sideCheck : ℕ → Bool → List Terminal → Checked
 sideCheck columns isFirst [] = Sound
 sideCheck columns isFirst (t ∷ ts) = terminalCheck columns isFirst t orElse sideCheck columns false ts
 
--- the terminals of one part
+-- the terminals of one part: of a sheet that 1 to 5 leave, its records from the offset on
 abbrev pub terminalsOf : List ℕ → Part → List Terminal
-terminalsOf b part = terminalsFrom b (part .at) (part .count)
+terminalsOf b part = terminalsIn (bytesOf b part)
 
 -- "Order: 1 to 5 in turn. Then terminals, top then bottom"
 unfoldable pub checkOf : List ℕ → Checked

@@ -1,3 +1,2 @@
-pub mod Format
 pub mod Check
 pub mod Read

@@ -1,11 +1,11 @@
 // 1 to 5: the file's length, its mark and its trailer.
 use crate::Checked;
-use crate::Part;
-use crate::Trailer;
-use crate::format::RECORD;
-use crate::format::TRAILER;
-use crate::format::has_mark;
-use crate::format::read_trailer;
+use format::Part;
+use format::RECORD;
+use format::TRAILER;
+use format::Trailer;
+use format::has_mark;
+use format::read_trailer;
 use terminal::Refusal;
 ghost use mathlib.Core.Path.{_≡_};
 ghost use Prim.Native.Nat.{_≤_};

@@ -1,34 +1,28 @@
 // 6 to 8: the terminals of one side.
 use crate::Checked;
-use crate::Part;
-use crate::format::RECORD;
-use crate::format::read_record;
+use format::count_in;
+use format::terminal_at;
 use terminal::Record;
 use terminal::Refusal;
 use terminal::names_above;
 ghost use mathlib.Core.Path.{_≡_};
 ghost use mathlib.Core.Bool.{true};
-ghost use Prim.Native.Nat.{_+_, _*_, _≤_};
-ghost use lib.ListN.{length};
 ghost use Rattle.channel.specs.Sheet.{distances?};
 ghost use Rattle.terminal.specs.Terminal.{terminalOf};
-ghost use Rattle.soundness.specs.Format.{recordSize, terminalsFrom};
+ghost use Rattle.format.specs.Parts.{terminalsIn};
 ghost use Rattle.soundness.specs.Check.{terminalCheck, sideCheck};
 
-// All terminals of a part, in order.
-pub fn check_side(s: &[u8], part: Part, columns: usize) -> Checked
-    requires { ⌜ part .at + recordSize * part .count ≤ length (now s) ⌝ }
-    ensures { λ r. ⌜ r ≡ sideCheck columns true (terminalsFrom (now (s .entry)) (part .at) (part .count)) ⌝ }
+// All terminals of a section, in order.
+pub fn check_side(section: &[u8], columns: usize) -> Checked
+    ensures { λ r. ⌜ r ≡ sideCheck columns true (terminalsIn (now (section .entry))) ⌝ }
 {
-    let count = part.count;
-    let mut at = part.at;
+    let count = count_in(section);
     let mut i = 0;
     while i < count {
-        let answer = check_record(read_record(s, at), i == 0, columns);
+        let answer = check_record(terminal_at(section, i), i == 0, columns);
         let Checked::Sound = answer else {
             return answer;
         };
-        at += RECORD;
         i += 1;
     }
     Checked::Sound

@@ -1,9 +1,8 @@
 -- `soundness::check` meets its contract: each answer is that of the first of the three checks that refuses.
 -- Assumes nothing.
 use mathlib.Core.Path.{_≡_, sym, _∙_}
+use Rattle.format.specs.Format.{trailerOf}
 use Rattle.soundness.specs.declared.Checked.the-variants.{Sound}
-use Rattle.soundness.specs.declared.Side.the-variants.{Top, Bottom}
-use Rattle.soundness.specs.Format.{trailerOf}
 use Rattle.soundness.specs.Check.{formOf}
 use Rattle.soundness.proofs.Checks.{formed, form-refuses, top-refuses, bottom-answers}
 use borrow.Author.Needs.{needs}
@@ -21,26 +20,21 @@ form c = sym (c .before .before .check-form .ensures) ∙ c .enum-told .given .1
 trailer : (c : tie.After-read-trailer) → c .read-trailer .result ≡ trailerOf (c .before .before .before .before .before .args .s .now)
 trailer c = c .read-trailer .ensures .long (formed _ (form (c .before)) .long)
 
-check-side-requires : tie.Need-check-side-requires
-check-side-requires c κs = rw (trailer c) (formed _ (form (c .before)) .room Top)
-
 returns-2 : tie.Need-returns-2
 returns-2 c =
-    let at-read-trailer = c .before .before .before in
-    top-refuses _ _ _ (trailer at-read-trailer) (form (at-read-trailer .before)) _ (c .before .before .check-side .ensures)
-    (c .enum-told4 .given .1)
-
-check-side-requires-2 : tie.Need-check-side-requires-2
-check-side-requires-2 c κs =
-    let at-read-trailer = c .before .before .before in
-    rw (trailer at-read-trailer) (formed _ (form (at-read-trailer .before)) .room Bottom)
+    let at-part-in = c .before .before .before in
+    let at-read-trailer = at-part-in .before in
+    top-refuses _ _ _ (trailer at-read-trailer) (form (at-read-trailer .before)) _ (at-part-in .part-in .ensures .bytes) _
+    (c .before .before .check-side .ensures) (c .enum-told4 .given .1)
 
 returns-3 : tie.Need-returns-3
 returns-3 c =
-    let at-check-side = c .before .before .before in
-    let at-read-trailer = at-check-side .before in
-    bottom-answers _ _ _ (trailer at-read-trailer) (form (at-read-trailer .before))
-    (sym (at-check-side .check-side .ensures) ∙ c .before .enum-told3 .given .1) (c .check-side2 .ensures)
+    let at-check-side = c .before .before .before .before in
+    let at-part-in = at-check-side .before in
+    let at-read-trailer = at-part-in .before in
+    bottom-answers _ _ _ (trailer at-read-trailer) (form (at-read-trailer .before)) _ (at-part-in .part-in .ensures .bytes)
+    (sym (at-check-side .check-side .ensures) ∙ c .before .before .enum-told3 .given .1) _ (c .before .part-in2 .ensures .bytes)
+    (c .check-side2 .ensures)
 
 pub check-spec : {M : Type 1} → statement M
 check-spec =
@@ -51,9 +45,11 @@ check-spec =
     (λ c. search needs)
     returns
     (λ c κs. search needs)
-    check-side-requires
+    (λ c κs. search needs)
+    (λ c κs. search needs)
     (λ c. search needs)
     (λ c. search needs)
     returns-2
-    check-side-requires-2
+    (λ c κs. search needs)
+    (λ c κs. search needs)
     returns-3)

@@ -15,12 +15,22 @@ returns c = rw (c .if1 .taken)
 
 returns-2 : tie.Need-returns-2
 returns-2 c =
-    ap Terminal (c .read-record .ensures .there (omega arith))
-    ∙ entry-found _ _ (c .before .before .if1 .left) (c .before .if2 .taken)
+    let at-count-in = c .before .before in
+    ap Terminal (c .terminal-at .ensures)
+    ∙ entry-found _ _ (at-count-in .before .if1 .left) (omega (arith, at-count-in .count-in .ensures, c .before .if2 .taken))
 
 returns-3 : tie.Need-returns-3
-returns-3 c = entry-nothing _ _ (c .before .if1 .left) (c .if2 .left)
+returns-3 c =
+    let at-count-in = c .before in
+    entry-nothing _ _ (at-count-in .before .if1 .left) (omega (arith, at-count-in .count-in .ensures, c .if2 .left))
 
 pub record-in-spec : {M : Type 1} → statement M
 record-in-spec =
-    tie.close (tie.spec returns (λ c. search needs) (λ c. search needs) (λ c κs. search needs) returns-2 returns-3)
+    tie.close
+    (tie.spec
+    returns
+    (λ c. search needs)
+    (λ c κs. search needs)
+    (λ c κs. search needs)
+    returns-2
+    returns-3)

@@ -4,7 +4,7 @@ use Prim.Native.Nat.{ℕ, _+_}
 use mathlib.Core.Path.{_≡_, sym, _∙_, ap}
 use native.Mathlib.Omega.{arith}
 use borrow.Author.Needs.{needs}
-use Rattle.soundness.specs.Format.{ofSide}
+use Rattle.format.specs.Format.{ofSide}
 use Rattle.sheet.specs.declared.Layout.{Layout}
 use Rattle.sheet.specs.Parts.{layoutOf}
 use Rattle.sheet.proofs.Sections.{opened-sound, opened-refused, refused-section, refused-at, sound-section, sound-at}

@@ -1,8 +1,0 @@
--- `sheet::count_in` meets its contract: as many terminals as whole records.
--- Assumes nothing.
-use Rattle.sheet.proofs.Sections.{length-terminals-in}
-use Rattle.sheet.proofs.parts.count_in.Statement.{statement}
-use Rattle.sheet.proofs.parts.count_in.Tie as tie
-
-pub count-in-spec : {M : Type 1} → statement M
-count-in-spec = tie.close (tie.spec (λ c. length-terminals-in _))
