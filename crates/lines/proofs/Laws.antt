@@ -10,10 +10,11 @@ use lib.ListN.{length, getD, take}
 use lib.Seq.{take-nil}
 use Rattle.channel.specs.Sheet.{Terminal}
 use Rattle.terminal.specs.Terminal.{recordOf}
-use Rattle.soundness.specs.declared.Side.{Side}
+use Rattle.format.specs.declared.Side.{Side}
 use Rattle.sheet.specs.declared.Entry.{Entry}
 use Rattle.sheet.specs.declared.Visit.{Visit}
-use Rattle.sheet.specs.Parts.{nth, entryOf, terminalsIn, entryIn}
+use Rattle.format.specs.Parts.{terminalsIn}
+use Rattle.sheet.specs.Parts.{nth, entryOf, entryIn}
 use Rattle.sheet.specs.Visits.{visits}
 use Rattle.sheet.proofs.Laws.{entry-in}
 use Rattle.lines.specs.Text.{line, entryLine, lines}

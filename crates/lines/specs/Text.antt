@@ -2,8 +2,8 @@
 -- Assumes nothing.
 use Prim.Native.Nat.{ℕ}
 use mathlib.Core.List.{List, [], _∷_, _++_}
-use Rattle.soundness.specs.declared.Side.{Side}
-use Rattle.soundness.specs.declared.Side.the-variants.{Top, Bottom}
+use Rattle.format.specs.declared.Side.{Side}
+use Rattle.format.specs.declared.Side.the-variants.{Top, Bottom}
 use Rattle.sheet.specs.declared.Entry.{Entry}
 use Rattle.sheet.specs.declared.Entry.the-variants.{Terminal, Nothing}
 use Rattle.sheet.specs.declared.Visit.{Visit}

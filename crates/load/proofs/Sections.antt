@@ -8,7 +8,7 @@ use lib.ListN.{length, take, drop, length-map, length-append}
 use lib.Seq.{take-at, drop-at}
 use Rattle.channel.specs.Sheet.{Terminal}
 use Rattle.channel.specs.Cut.{nets}
-use Rattle.sheet.specs.Parts.{terminalsIn}
+use Rattle.format.specs.Parts.{terminalsIn}
 use Rattle.nets.specs.Nets.{netsIn}
 use Rattle.places.specs.Places.{TwoSides}
 use Rattle.load.specs.Cuts.{AllLoads}

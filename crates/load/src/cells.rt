@@ -10,7 +10,7 @@ ghost use mathlib.Core.Path.{_≡_};
 ghost use mathlib.Core.Bool.{cond};
 ghost use Prim.Native.Nat.{ℕ, _+_, _≤_, _<_};
 ghost use lib.ListN.{length, take, drop};
-ghost use Rattle.sheet.specs.Parts.{terminalsIn};
+ghost use Rattle.format.specs.Parts.{terminalsIn};
 ghost use Rattle.arrays.specs.Loads.{loadBytes};
 ghost use Rattle.load.specs.Counts.{possibleLoads};
 ghost use Rattle.load.specs.Cuts.{AllLoads, Written};
@@ -81,14 +81,14 @@ fn tabulate(nets: &[u16], p: usize, loads: &mut [u8])
     write_table(&nets[..p], &nets[p..], &places[..end], loads);
 }
 
-// The loads of all cuts of two sections, as `sheet::part_in` gives them, once per search.
+// The loads of all cuts of two sections, as `format::part_in` gives them, once per search.
 pub fn read_loads(top: &[u8], bottom: &[u8], loads: &mut [u8])
     requires { ⌜ (length (terminalsIn (now top)) ≤ 64) × (length (terminalsIn (now bottom)) ≤ 64) × (length (now loads) ≡ loadBytes) ⌝ }
     ensures { λ r. ⌜ AllLoads (netsIn (now (top .entry))) (netsIn (now (bottom .entry))) (now (loads .entry)) (now (loads .exit)) ⌝ }
 {
     let mut nets: [u16; 128] = [0; 128];
-    let p = sheet::count_in(top);
-    let n = p + sheet::count_in(bottom);
+    let p = format::count_in(top);
+    let n = p + format::count_in(bottom);
     all_nets(top, bottom, p, &mut nets[..n]);
     tabulate(&nets[..n], p, loads);
 }

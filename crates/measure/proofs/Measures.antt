@@ -16,7 +16,8 @@ use Rattle.soundness.specs.Read.{sheetOf}
 use Rattle.sheet.specs.declared.Layout.{Layout}
 use Rattle.sheet.specs.declared.Opened.the-variants as opened
 use Rattle.sheet.specs.declared.Shape.{Shape}
-use Rattle.sheet.specs.Parts.{openedOf, bytesOf, terminalsIn, sheetIn}
+use Rattle.format.specs.Parts.{bytesOf, terminalsIn}
+use Rattle.sheet.specs.Parts.{openedOf, sheetIn}
 use Rattle.soundness.proofs.Laws.{read-sound}
 use Rattle.sheet.proofs.Laws.{opened-refused, Opens, opens}
 use Rattle.measure.specs.declared.Measured.{Measured}

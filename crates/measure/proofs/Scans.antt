@@ -10,7 +10,8 @@ use lib.Dec.{eqb}
 use Rattle.channel.specs.Sheet.{Terminal, noTerminal}
 use Rattle.channel.specs.Assignment.{allows, inRange}
 use Rattle.terminal.specs.declared.Record.{Record}
-use Rattle.sheet.specs.Parts.{terminalsIn, entryIn}
+use Rattle.format.specs.Parts.{terminalsIn}
+use Rattle.sheet.specs.Parts.{entryIn}
 use Rattle.measure.specs.Answer.{sideAllowed, laterKept, sideKept}
 use Rattle.nets.specs.Nets.{recordOr}
 use Rattle.nets.proofs.Nets.{drop-next, record-terminal}

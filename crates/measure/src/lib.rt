@@ -36,8 +36,8 @@ pub fn measure(s: &[u8], columns: &[u8]) -> Measured
             if columns.len() != shape.pins {
                 return Measured::Count;
             }
-            let top = sheet::part_in(s, layout.top);
-            let bottom = sheet::part_in(s, layout.bottom);
+            let top = format::part_in(s, layout.top);
+            let bottom = format::part_in(s, layout.bottom);
             measure_list(top, bottom, columns, shape.top, shape.columns)
         }
     }

@@ -3,7 +3,7 @@ use nets::terminal_at;
 ghost use mathlib.Core.Path.{_≡_};
 ghost use mathlib.Core.Bool.{not, _&&_};
 ghost use lib.ListN.{length};
-ghost use Rattle.sheet.specs.Parts.{terminalsIn};
+ghost use Rattle.format.specs.Parts.{terminalsIn};
 ghost use Rattle.measure.specs.Answer.{sideAllowed, sideKept};
 ghost use Rattle.measure.specs.Inner.{sideAt};
 

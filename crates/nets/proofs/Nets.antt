@@ -13,7 +13,8 @@ use Rattle.channel.specs.Density.{any}
 use Rattle.channel.specs.Cut.{nets}
 use Rattle.terminal.specs.declared.Record.{Record}
 use Rattle.terminal.specs.Terminal.{recordOf}
-use Rattle.sheet.specs.Parts.{nth, terminalsIn, entryIn}
+use Rattle.format.specs.Parts.{terminalsIn}
+use Rattle.sheet.specs.Parts.{nth, entryIn}
 use Rattle.sheet.proofs.Laws.{entry-in}
 use Rattle.nets.specs.Nets.{recordOr}
 

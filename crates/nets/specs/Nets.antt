@@ -6,7 +6,7 @@ use Rattle.channel.specs.Cut.{nets}
 use Rattle.terminal.specs.declared.Record.{Record}
 use Rattle.sheet.specs.declared.Entry.{Entry}
 use Rattle.sheet.specs.declared.Entry.the-variants.{Terminal as Found, Nothing}
-use Rattle.sheet.specs.Parts.{terminalsIn}
+use Rattle.format.specs.Parts.{terminalsIn}
 
 -- an entry's record; all 0 where there is none
 abbrev pub recordOr : Entry → Record

@@ -8,7 +8,8 @@ ghost use lib.ListN.{length, drop};
 ghost use lib.Dec.{eqb};
 ghost use Rattle.channel.specs.Density.{any};
 ghost use Rattle.channel.specs.Cut.{nets as netsOf};
-ghost use Rattle.sheet.specs.Parts.{terminalsIn, entryIn};
+ghost use Rattle.format.specs.Parts.{terminalsIn};
+ghost use Rattle.sheet.specs.Parts.{entryIn};
 ghost use Rattle.nets.specs.Nets.{recordOr};
 
 // The record at a place, from 1, of a section; all 0 where there is none.

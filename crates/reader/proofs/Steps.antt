@@ -7,8 +7,8 @@ use mathlib.Core.List.{List, [], _∷_, _++_}
 use native.Mathlib.Omega.{arith}
 use lib.ListN.{length, length-append, take}
 use Rattle.channel.specs.Sheet.{Terminal, Sheet}
-use Rattle.soundness.specs.declared.Side.{Side}
-use Rattle.soundness.specs.declared.Side.the-variants.{Top, Bottom}
+use Rattle.format.specs.declared.Side.{Side}
+use Rattle.format.specs.declared.Side.the-variants.{Top, Bottom}
 use Rattle.soundness.specs.Read.{Read, read}
 use Rattle.soundness.specs.Read.Read.{sound, refused}
 use Rattle.sheet.specs.declared.Cursor.{Cursor}

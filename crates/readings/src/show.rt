@@ -1,8 +1,8 @@
 // What a step finds, in a line of text.
+use format::Side;
 use libc::STDOUT_FILENO;
 use sheet::Step;
 use sheet::Visit;
-use soundness::Side;
 use terminal::Record;
 use terminal::Refusal;
 

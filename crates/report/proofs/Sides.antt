@@ -8,14 +8,15 @@ use lib.ListN.{length, take, drop}
 use lib.Seq.{take-add, length-take-le}
 use Rattle.channel.specs.Sheet.{Sheet}
 use Rattle.terminal.specs.declared.Refusal.{Refusal}
-use Rattle.soundness.specs.declared.Side.the-variants.{Top, Bottom}
+use Rattle.format.specs.declared.Side.the-variants.{Top, Bottom}
 use Rattle.soundness.specs.Read.{Read, sheetOf, read}
 use Rattle.soundness.specs.Read.Read.{sound, refused}
 use Rattle.soundness.proofs.Laws.{read-checked}
 use Rattle.sheet.specs.declared.Layout.{Layout}
 use Rattle.sheet.specs.declared.Opened.the-variants as opened
 use Rattle.sheet.specs.declared.Shape.{Shape}
-use Rattle.sheet.specs.Parts.{shapeOf, openedOf, bytesOf, terminalsIn}
+use Rattle.format.specs.Parts.{bytesOf, terminalsIn}
+use Rattle.sheet.specs.Parts.{shapeOf, openedOf}
 use Rattle.sheet.specs.Visits.{visits}
 use Rattle.sheet.proofs.Laws.{opened-refused, shape-read, visits-of, length-visits, Opens, opens}
 use Rattle.lines.specs.Text.{lines}

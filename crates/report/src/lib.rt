@@ -1,9 +1,9 @@
 // The text that the program prints, as functions on slices.
+use format::Side;
 use lines::DIGITS;
 use lines::put_side;
 use sheet::Layout;
 use sheet::Opened;
-use soundness::Side;
 use text::put_byte;
 use text::put_field;
 ghost use mathlib.Core.Path.{_≡_};
@@ -70,8 +70,8 @@ fn put_sides(input: &[u8], layout: Layout, columns: &[u8], out: &mut [u8], at: u
     let shape = layout.shape;
     let p = shape.top;
     let pins = shape.pins;
-    let top = sheet::part_in(input, layout.top);
-    let bottom = sheet::part_in(input, layout.bottom);
+    let top = format::part_in(input, layout.top);
+    let bottom = format::part_in(input, layout.bottom);
     let middle = put_side(Side::Top, top, &columns[..p], out, at);
     put_side(Side::Bottom, bottom, &columns[p..pins], out, middle)
 }

@@ -17,7 +17,8 @@ use Rattle.terminal.specs.declared.Record.{Record}
 use Rattle.terminal.specs.Terminal.{recordOf}
 use Rattle.sheet.specs.declared.Entry.{Entry}
 use Rattle.sheet.specs.declared.Entry.the-variants.{Terminal as Found, Nothing}
-use Rattle.sheet.specs.Parts.{nth, terminalsIn, entryIn}
+use Rattle.format.specs.Parts.{terminalsIn}
+use Rattle.sheet.specs.Parts.{nth, entryIn}
 use Rattle.sheet.proofs.Laws.{entry-at, entry-in, entry-there}
 use Rattle.reach.specs.Reach.{terminalNumber}
 use Rattle.bits.specs.Bits.{bitOf}

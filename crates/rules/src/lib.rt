@@ -3,8 +3,8 @@
 use arrays::put_rule;
 use bits::either;
 use bits::single;
+use format::count_in;
 use sheet::Entry;
-use sheet::count_in;
 use sheet::record_in;
 use terminal::in_range;
 ghost use Prim.Native.Nat.{ℕ, _+_, _≤_, _<_};
@@ -13,7 +13,7 @@ ghost use lib.ListN.{length};
 ghost use Rattle.channel.specs.Assignment.{inRange};
 ghost use Rattle.arrays.specs.Rules.{pins, ruleWords};
 ghost use Rattle.bits.specs.Bits.{bitOf};
-ghost use Rattle.sheet.specs.Parts.{terminalsIn};
+ghost use Rattle.format.specs.Parts.{terminalsIn};
 ghost use Rattle.rules.specs.Sides.{TerminalRule, SideRead};
 
 // One terminal's words: bit e of the range is the distance e + 1, and bit x of the allowed set is the

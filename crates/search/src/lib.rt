@@ -50,8 +50,8 @@ fn search_layout(s: &[u8], layout: Layout, columns: &mut [u8], work: &mut [u16])
     if work.len() < shape.cells {
         return Searched::Cells;
     }
-    let top = sheet::part_in(s, layout.top);
-    let bottom = sheet::part_in(s, layout.bottom);
+    let top = format::part_in(s, layout.top);
+    let bottom = format::part_in(s, layout.bottom);
     let outcome = solve::solve(top, bottom, shape, columns, work);
     match outcome {
         Outcome::Least(d) => Searched::Found(d),

@@ -2,7 +2,7 @@
 use crate::build;
 use crate::build::record;
 use crate::show;
-use soundness::Side;
+use format::Side;
 
 // Sets of which every byte, or both end bits, count.
 const EVERY_BYTE: u64 = 578437695752307201;

@@ -1,11 +1,11 @@
 // What the library answers, in lines of text.
+use format::Side;
 use libc::STDOUT_FILENO;
 use sheet::Cursor;
 use sheet::Entry;
 use sheet::Step;
 use sheet::Visit;
 use soundness::Checked;
-use soundness::Side;
 use terminal::Record;
 use terminal::Refusal;
 

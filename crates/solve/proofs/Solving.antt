@@ -17,7 +17,8 @@ use Rattle.channel.specs.Best.Found.{none, found}
 use Rattle.channel.specs.Word.{columnsOf}
 use Rattle.channel.specs.Word.Letter.{top, bottom, both}
 use Rattle.sheet.specs.declared.Shape.{Shape}
-use Rattle.sheet.specs.Parts.{terminalsIn, sheetIn}
+use Rattle.format.specs.Parts.{terminalsIn}
+use Rattle.sheet.specs.Parts.{sheetIn}
 use Rattle.arrays.specs.Rules.{ruleWords}
 use Rattle.arrays.specs.Loads.{loadBytes}
 use Rattle.load.specs.Cuts.{Cell, AllLoads}

@@ -10,7 +10,8 @@ use Rattle.channel.specs.Sheet.{Sound}
 use Rattle.channel.specs.Best.{Found, best}
 use Rattle.channel.specs.Best.Found.{none, found}
 use Rattle.sheet.specs.declared.Shape.{Shape}
-use Rattle.sheet.specs.Parts.{terminalsIn, sheetIn, shape}
+use Rattle.format.specs.Parts.{terminalsIn}
+use Rattle.sheet.specs.Parts.{sheetIn, shape}
 use Rattle.pass.specs.declared.Plan.{Plan}
 use Rattle.pass.specs.declared.Outcome.{Outcome}
 use Rattle.pass.specs.declared.Outcome.the-variants as outcome

@@ -11,7 +11,8 @@ use Rattle.channel.specs.Word.{word, columnsOf, words}
 use Rattle.channel.specs.Best.{bestOf, best}
 use Rattle.channel.specs.Pairs.{Looser, BothFree}
 use Rattle.channel.proofs.Sets.{allows-below}
-use Rattle.soundness.specs.Format.{little, terminalAt, terminalsFrom, trailerOf, hasMark}
+use Rattle.format.specs.Format.{little, terminalAt, terminalsFrom, trailerOf, hasMark}
+use Rattle.format.specs.Parts.{bytesOf, terminalsIn}
 use Rattle.soundness.specs.Check.{laidOut, trailerCheck, formOf, terminalCheck, checkOf}
 use Rattle.soundness.specs.Read.{sheetOf, read}
 use Rattle.search.specs.Answer.{answerIn, searchedOf, columnsAfter}
@@ -69,7 +70,7 @@ second-free n =
 
 pub paired : Paired
 unfolding fits crosses netsOf columnDensity density word columnsOf words bestOf best little terminalAt terminalsFrom trailerOf
-    hasMark laidOut trailerCheck formOf terminalCheck checkOf sheetOf read answerIn searchedOf columnsAfter
+    hasMark bytesOf terminalsIn laidOut trailerCheck formOf terminalCheck checkOf sheetOf read answerIn searchedOf columnsAfter
 paired =
     record {
       A-2-reads = refl;

@@ -5,7 +5,8 @@ use Rattle.channel.specs.Assignment.{fits, topColumns, bottomColumns, assignmen
 use Rattle.channel.specs.Density.{crosses, netsOf, columnDensity, density}
 use Rattle.channel.specs.Word.{word, columnsOf, words}
 use Rattle.channel.specs.Best.{bestOf, best}
-use Rattle.soundness.specs.Format.{little, terminalAt, terminalsFrom, trailerOf, hasMark}
+use Rattle.format.specs.Format.{little, terminalAt, terminalsFrom, trailerOf, hasMark}
+use Rattle.format.specs.Parts.{bytesOf, terminalsIn}
 use Rattle.soundness.specs.Check.{laidOut, trailerCheck, formOf, terminalCheck, checkOf}
 use Rattle.soundness.specs.Read.{sheetOf, read}
 use Rattle.sheet.specs.Parts.{shapeOf}
@@ -15,7 +16,7 @@ use Rattle.starred.specs.Table.{Starred}
 
 pub starred : Starred
 unfolding fits topColumns bottomColumns assignment? crosses netsOf columnDensity density word columnsOf words bestOf best
-    little terminalAt terminalsFrom trailerOf hasMark laidOut trailerCheck formOf terminalCheck checkOf sheetOf read shapeOf
+    little terminalAt terminalsFrom trailerOf hasMark bytesOf terminalsIn laidOut trailerCheck formOf terminalCheck checkOf sheetOf read shapeOf
     allAllowed distancesKept listMeasured sheetMeasured measuredOf answerIn searchedOf columnsAfter
 starred =
     record {

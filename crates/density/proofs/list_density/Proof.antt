@@ -9,7 +9,7 @@ use native.Mathlib.Omega.{arith}
 use lib.ListN.{length, length-append, take, drop, replicate}
 use lib.Seq.{length-take-le, take-at}
 use Rattle.channel.specs.Density.{maximumTo}
-use Rattle.sheet.specs.Parts.{terminalsIn}
+use Rattle.format.specs.Parts.{terminalsIn}
 use Rattle.density.specs.Counted.{countedAt}
 use Rattle.nets.proofs.Nets.{length-nets}
 use Rattle.density.proofs.Counted.{bytes-below, density-counted}

@@ -6,7 +6,7 @@ use mathlib.Core.Path.{sym, _∙_}
 use native.Mathlib.Omega.{arith}
 use borrow.Author.Tests.{not-true, not-false}
 use lib.Seq.{length-take-le}
-use Rattle.sheet.specs.Parts.{terminalsIn}
+use Rattle.format.specs.Parts.{terminalsIn}
 use Rattle.measure.proofs.Measures.{top-refused, bottom-refused, distance-refused, measured}
 use Rattle.measure.proofs.measure_list.Tie as tie
 

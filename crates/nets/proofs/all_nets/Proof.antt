@@ -5,7 +5,7 @@ use Rattle.nets.proofs.all_nets.Statement.{statement}
 use mathlib.Core.Path.{sym, _∙_}
 use native.Mathlib.Omega.{arith}
 use lib.Seq.{length-take-le}
-use Rattle.sheet.specs.Parts.{terminalsIn}
+use Rattle.format.specs.Parts.{terminalsIn}
 use Rattle.nets.proofs.Nets.{nets-both}
 use Rattle.nets.proofs.all_nets.Tie as tie
 

@@ -7,7 +7,7 @@ use native.Mathlib.Omega.{arith}
 use borrow.Author.Needs.{needs}
 use lib.ListN.{length, take, length-set}
 use Rattle.channel.specs.Cut.{nets as netsOf}
-use Rattle.sheet.specs.Parts.{terminalsIn}
+use Rattle.format.specs.Parts.{terminalsIn}
 use Rattle.nets.proofs.Nets.{nets-more, nets-all}
 use Rattle.nets.proofs.fill_nets.Tie as tie
 

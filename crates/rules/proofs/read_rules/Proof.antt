@@ -5,7 +5,7 @@ use Prim.Native.Nat.{_≤_, _-_}
 use mathlib.Core.Path.{_∙_}
 use native.Mathlib.Omega.{arith}
 use borrow.Author.Needs.{needs}
-use Rattle.sheet.specs.Parts.{terminalsIn}
+use Rattle.format.specs.Parts.{terminalsIn}
 use Rattle.rules.proofs.Reading.{RulesTo, rules-none, rules-more, rules-all}
 use Rattle.rules.proofs.read_rules.Statement.{statement}
 use Rattle.rules.proofs.read_rules.Tie as tie

@@ -5,7 +5,7 @@ use mathlib.Core.Logic.{inl, inr}
 use native.Mathlib.Omega.{arith}
 use lib.ListN.{length}
 use borrow.Author.Needs.{needs}
-use Rattle.sheet.specs.Parts.{terminalsIn}
+use Rattle.format.specs.Parts.{terminalsIn}
 use Rattle.rules.proofs.Reading.{rules-kept}
 use Rattle.solve.proofs.Solving.{loads-sheet, crowded-worked, place-asked, placed-worked}
 use Rattle.solve.proofs.find.Statement.{statement}

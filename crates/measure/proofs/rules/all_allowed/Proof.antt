@@ -9,7 +9,7 @@ use native.Mathlib.Omega.{arith}
 use borrow.Author.Needs.{needs}
 use borrow.Author.Tests.{not-true, not-false}
 use lib.ListN.{length, drop}
-use Rattle.sheet.specs.Parts.{terminalsIn}
+use Rattle.format.specs.Parts.{terminalsIn}
 use Rattle.measure.specs.Answer.{sideAllowed}
 use Rattle.measure.proofs.Scans.{allowed-more, allowed-past}
 use Rattle.measure.proofs.rules.all_allowed.Statement.{statement}

@@ -10,7 +10,7 @@ use native.Mathlib.Omega.{arith}
 use borrow.Author.Needs.{needs}
 use borrow.Author.Tests.{not-true, not-false}
 use lib.ListN.{length, getD, drop}
-use Rattle.sheet.specs.Parts.{terminalsIn}
+use Rattle.format.specs.Parts.{terminalsIn}
 use Rattle.measure.specs.Answer.{laterKept, sideKept}
 use Rattle.measure.proofs.Scans.{kept-more, kept-past, kept-first, keptAt, side-same, fromSide, from-past, from-kept, from-broken}
 use Rattle.measure.proofs.rules.out_of_range.Tie as tie
