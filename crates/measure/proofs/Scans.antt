@@ -10,23 +10,22 @@ use lib.Dec.{eqb}
 use Rattle.channel.specs.Sheet.{Terminal, noTerminal}
 use Rattle.channel.specs.Assignment.{allows, inRange}
 use Rattle.terminal.specs.declared.Record.{Record}
+use Rattle.terminal.specs.Terminal.{recordOf}
 use Rattle.format.specs.Parts.{terminalsIn}
-use Rattle.sheet.specs.Parts.{entryIn}
 use Rattle.measure.specs.Answer.{sideAllowed, laterKept, sideKept}
-use Rattle.nets.specs.Nets.{recordOr}
-use Rattle.nets.proofs.Nets.{drop-next, record-terminal}
+use Rattle.nets.proofs.Nets.{drop-next}
 use Rattle.measure.specs.Inner.{sideAt}
 
 -- one place of a side, of which r is the record: the rest is said by the places behind it
 module _ (part columns : List ℕ) (same : length columns ≡ length (terminalsIn part)) (i : ℕ) (inside : i < length columns)
-    (r : Record) (answer : r ≡ recordOr (entryIn part (i + 1))) where
+    (r : Record) (answer : r ≡ recordOf (getD (terminalsIn part) i noTerminal)) where
   terminals-next : drop i (terminalsIn part) ≡ getD (terminalsIn part) i noTerminal ∷ drop (i + 1) (terminalsIn part)
   terminals-next = drop-next (terminalsIn part) i noTerminal (omega arith)
 
   pub allowed-more :
       sideAllowed (drop i (terminalsIn part)) (drop i columns)
       ≡ (allows (r .allowed) (getD columns i 0) && sideAllowed (drop (i + 1) (terminalsIn part)) (drop (i + 1) columns))
-  allowed-more = rw (terminals-next, drop-next columns i 0 inside, answer ∙ record-terminal part i)
+  allowed-more = rw (terminals-next, drop-next columns i 0 inside, answer)
 
   pub kept-more :
       (before : ℕ)
@@ -35,7 +34,7 @@ module _ (part columns : List ℕ) (same : length columns ≡ length (terminalsI
       && laterKept (drop (i + 1) (terminalsIn part)) (getD columns (i + 1 - 1) 0) (drop (i + 1) columns))
   kept-more before =
       let back : i + 1 - 1 ≡ i = omega arith in
-      rw (terminals-next, drop-next columns i 0 inside, answer ∙ record-terminal part i, back)
+      rw (terminals-next, drop-next columns i 0 inside, answer, back)
 
 -- past the last place nothing is left
 module _ (ts : List Terminal) (cs : List ℕ) (i : ℕ) (past : length ts ≤ i) where

@@ -1,5 +1,5 @@
 // What 13 and 14 ask of a list as long as the terminals.
-use nets::terminal_at;
+use format::terminal_at;
 ghost use mathlib.Core.Path.{_≡_};
 ghost use mathlib.Core.Bool.{not, _&&_};
 ghost use lib.ListN.{length};
@@ -14,7 +14,7 @@ pub fn all_allowed(part: &[u8], columns: &[u8]) -> bool
 {
     let mut i = 0;
     while i < columns.len() {
-        let r = terminal_at(part, i + 1);
+        let r = terminal_at(part, i);
         if !terminal::allows(r.allowed, columns[i]) {
             return false;
         }
@@ -47,7 +47,7 @@ pub fn out_of_range<'a, 'b>(
         let columns = side_at(tops, bottoms, side);
         let mut i = 1;
         while i < columns.len() {
-            let r = terminal_at(part, i + 1);
+            let r = terminal_at(part, i);
             if !terminal::in_range(columns[i - 1], columns[i], r.least, r.greatest) {
                 found = true;
                 break 'scan;

@@ -1,8 +1,8 @@
--- Laws of the nets of a sheet's terminals: the record at a place, and the nets of a section one after the other.
+-- Laws of the nets of a sheet's terminals, one after the other.
 -- Assumes nothing.
-use Prim.Native.Nat.{ℕ, zero, suc, _+_, _-_, _≤_, _<_}
-use mathlib.Core.Path.{_≡_, refl, sym, _∙_, ap}
-use mathlib.Core.List.{List, [], _∷_, _++_, append-nil, map-append}
+use Prim.Native.Nat.{ℕ, _+_, _-_, _≤_, _<_}
+use mathlib.Core.Path.{_≡_, sym, _∙_, ap}
+use mathlib.Core.List.{List, _∷_, _++_, append-nil, map-append}
 use mathlib.Core.Bool.{Bool, _||_}
 use native.Mathlib.Omega.{arith}
 use native.Mathlib.Numerals.{add-one}
@@ -14,23 +14,10 @@ use Rattle.channel.specs.Cut.{nets}
 use Rattle.terminal.specs.declared.Record.{Record}
 use Rattle.terminal.specs.Terminal.{recordOf}
 use Rattle.format.specs.Parts.{terminalsIn}
-use Rattle.sheet.specs.Parts.{nth, entryIn}
-use Rattle.sheet.proofs.Laws.{entry-in}
-use Rattle.nets.specs.Nets.{recordOr}
 
 -- the first of what is left of a list, and what stands behind it
 pub drop-next : {A : Type 0} (xs : List A) (i : ℕ) (d : A) → i < length xs → drop i xs ≡ getD xs i d ∷ drop (i + 1) xs
 drop-next xs i d h = rw add-one (drop-cons xs i d h)
-
--- the record of an entry is that of the terminal
-nth-record : (ts : List Terminal) (i : ℕ) → recordOr (nth ts i) ≡ recordOf (getD ts i noTerminal)
-nth-record [] i = refl
-nth-record (t ∷ ts) zero = refl
-nth-record (t ∷ ts) (suc i) = nth-record ts i
-
--- the record at place i + 1 of a section is that of its terminal i
-pub record-terminal : (part : List ℕ) (i : ℕ) → recordOr (entryIn part (i + 1)) ≡ recordOf (getD (terminalsIn part) i noTerminal)
-record-terminal part i = rw (entry-in, add-one) (nth-record (terminalsIn part) i)
 
 -- whether a number is among those that are left
 pub any-more : (f : ℕ → Bool) (ns : List ℕ) (i : ℕ) → i < length ns → any f (drop i ns) ≡ (f (getD ns i 0) || any f (drop (i + 1) ns))
@@ -39,13 +26,13 @@ any-more f ns i h = rw (drop-next ns i 0 h)
 -- the nets of a section: one more is stored, and at last all are
 module _ (part ns : List ℕ) (i : ℕ) (so-far : take i ns ≡ take i (nets (terminalsIn part))) where
   pub nets-more :
-      i < length ns → i < length (terminalsIn part) → (r : Record) → r ≡ recordOr (entryIn part (i + 1))
+      i < length ns → i < length (terminalsIn part) → (r : Record) → r ≡ recordOf (getD (terminalsIn part) i noTerminal)
       → take (i + 1) (set ns i (r .net)) ≡ take (i + 1) (nets (terminalsIn part))
   nets-more h g r answer =
       let f : Terminal → ℕ = λ (t : Terminal). t .net in
       let inside : i < length (nets (terminalsIn part)) = rw length-map g in
       let net : getD (nets (terminalsIn part)) i 0 ≡ r .net
-      = List·getD-map f (terminalsIn part) i noTerminal ∙ ap (λ (q : Record). q .net) (sym (answer ∙ record-terminal part i)) in
+      = List·getD-map f (terminalsIn part) i noTerminal ∙ ap (λ (q : Record). q .net) (sym answer) in
       rw (add-one, take-suc-set ns i (r .net) h, take-suc (nets (terminalsIn part)) i 0 inside, so-far, net)
 
   pub nets-all : length ns ≡ length (terminalsIn part) → length ns ≤ i → ns ≡ nets (terminalsIn part)

@@ -1,6 +1,5 @@
 // The nets of a sheet's terminals.
-use sheet::Entry;
-use terminal::Record;
+use format::terminal_at;
 ghost use mathlib.Core.Path.{_≡_};
 ghost use mathlib.Core.List.{_++_};
 ghost use Prim.Native.Nat.{_+_};
@@ -9,24 +8,6 @@ ghost use lib.Dec.{eqb};
 ghost use Rattle.channel.specs.Density.{any};
 ghost use Rattle.channel.specs.Cut.{nets as netsOf};
 ghost use Rattle.format.specs.Parts.{terminalsIn};
-ghost use Rattle.sheet.specs.Parts.{entryIn};
-ghost use Rattle.nets.specs.Nets.{recordOr};
-
-// The record at a place, from 1, of a section; all 0 where there is none.
-pub fn terminal_at(part: &[u8], place: usize) -> Record
-    ensures { λ r. ⌜ r ≡ recordOr (entryIn (now (part .entry)) place) ⌝ }
-{
-    let entry = sheet::record_in(part, place);
-    match entry {
-        Entry::Terminal(r) => r,
-        Entry::Nothing => Record {
-            net: 0,
-            least: 0,
-            greatest: 0,
-            allowed: 0,
-        },
-    }
-}
 
 // The nets of all terminals, top then bottom.
 pub fn all_nets(top: &[u8], bottom: &[u8], p: usize, nets: &mut [u16])
@@ -44,7 +25,7 @@ fn fill_nets(part: &[u8], nets: &mut [u16])
 {
     let mut i = 0;
     while i < nets.len() {
-        let r = terminal_at(part, i + 1);
+        let r = terminal_at(part, i);
         nets[i] = r.net;
         i += 1;
     }

@@ -2,7 +2,7 @@
 -- Assumes nothing.
 use Prim.Native.Nat.{ℕ, zero, suc, _+_, _-_, _/_, _%_, _^_, _≤_, _<_}
 use mathlib.Core.Path.{_≡_, refl, sym, _∙_, ap}
-use mathlib.Core.List.{List, [], _∷_}
+use mathlib.Core.List.{List}
 use mathlib.Core.Bool.{Bool, true, false, _&&_, _||_, and-true, and-false, or-false}
 use native.Mathlib.Omega.{arith}
 use native.Mathlib.Nat.{zero-add, suc-add}
@@ -10,16 +10,12 @@ use native.Mathlib.Numerals.{add-one}
 use lib.ListN.{length, getD}
 use lib.Dec.{leb, ltb, eqb, leb·suc-suc}
 use borrow.Author.Tests.{le-leb, lt-leb, ltb-true, ltb-false, lt-ltb, le-ltb, eqb-true, eqb-false}
-use Rattle.channel.specs.Sheet.{Terminal, noTerminal}
+use Rattle.channel.specs.Sheet.{noTerminal}
 use Rattle.channel.specs.Assignment.{allows, inRange}
 use Rattle.channel.proofs.Sets.{allows-at}
 use Rattle.terminal.specs.declared.Record.{Record}
 use Rattle.terminal.specs.Terminal.{recordOf}
-use Rattle.sheet.specs.declared.Entry.{Entry}
-use Rattle.sheet.specs.declared.Entry.the-variants.{Terminal as Found, Nothing}
 use Rattle.format.specs.Parts.{terminalsIn}
-use Rattle.sheet.specs.Parts.{nth, entryIn}
-use Rattle.sheet.proofs.Laws.{entry-at, entry-in, entry-there}
 use Rattle.reach.specs.Reach.{terminalNumber}
 use Rattle.bits.specs.Bits.{bitOf}
 use Rattle.bits.proofs.Laws.{bit-zero, bit-shr, bit-full}
@@ -85,49 +81,34 @@ unfolding bitOf
 allowed-shift set i x h =
     bit-shr set (i - 1) x ∙ ap (λ (k : ℕ). eqb (set / 2 ^ k % 2) 1) (omega arith) ∙ sym (allows-at set (x + i) (omega arith))
 
--- the record found at a place is that terminal's
-nth-found : (ts : List Terminal) (k : ℕ) (r : Record) → nth ts k ≡ Found r → recordOf (getD ts k noTerminal) ≡ r
-nth-found [] k r e = let z : _≡_ {A = ℕ} 0 1 = cc in absurd (omega arith)
-nth-found (t ∷ ts) zero r e = cc
-nth-found (t ∷ ts) (suc k) r e = nth-found ts k r e
+-- the record of a place's terminal
+module _ (part : List ℕ) (place : ℕ) (r : Record) (p : 1 ≤ place) (answer : r ≡ recordOf (getD (terminalsIn part) (place - 1) noTerminal)) where
+  here : recordOf (terminalNumber (terminalsIn part) place) ≡ r
+  here = ap (λ (k : ℕ). recordOf (getD (terminalsIn part) k noTerminal)) (omega arith) ∙ sym answer
 
--- what is found at a place of a section
-module _ (part : List ℕ) (place : ℕ) (found : Entry) (answer : found ≡ entryIn part place) where
-  -- it is a record where the section has the place
-  pub not-nothing : 1 ≤ place → place ≤ length (terminalsIn part) → found ≡ Nothing → ⊥
-  not-nothing p l e = entry-there part place p l (sym answer ∙ e)
+  -- and so is its set, shifted down
+  allowed-word :
+      (x : ℕ) → bitOf (r .allowed / 2 ^ (place - 1)) x ≡ allows ((terminalNumber (terminalsIn part) place) .allowed) (x + place)
+  allowed-word x = allowed-shift (r .allowed) place x p ∙ ap (λ (q : Record). allows (q .allowed) (x + place)) (sym here)
 
-  module _ (r : Record) (p : 1 ≤ place) (e : found ≡ Found r) where
-    -- the record is the terminal's
-    here : recordOf (terminalNumber (terminalsIn part) place) ≡ r
-    here =
-        let ts : List Terminal = terminalsIn part in
-        ap (λ (k : ℕ). recordOf (getD ts k noTerminal)) (omega arith)
-        ∙ nth-found ts (place - 1) r (sym (entry-at ts place (omega arith)) ∙ sym (entry-in part place) ∙ sym answer ∙ e)
+  -- the first terminal's rule has every distance, and a later one's those in its range
+  pub first-rule : place ≡ 1 → TerminalRule (terminalsIn part) place 18446744073709551615 (r .allowed / 2 ^ (place - 1))
+  first-rule one =
+      record {
+        range = λ k t h. bit-full k h ∙ sym (rw (le-leb place 1 (omega arith)));
+        allowed = allowed-word;
+      }
 
-    -- and so is its set, shifted down
-    allowed-word :
-        (x : ℕ) → bitOf (r .allowed / 2 ^ (place - 1)) x ≡ allows ((terminalNumber (terminalsIn part) place) .allowed) (x + place)
-    allowed-word x = allowed-shift (r .allowed) place x p ∙ ap (λ (q : Record). allows (q .allowed) (x + place)) (sym here)
-
-    -- the first terminal's rule has every distance, and a later one's those in its range
-    pub first-rule : place ≡ 1 → TerminalRule (terminalsIn part) place 18446744073709551615 (r .allowed / 2 ^ (place - 1))
-    first-rule one =
-        record {
-          range = λ k t h. bit-full k h ∙ sym (rw (le-leb place 1 (omega arith)));
-          allowed = allowed-word;
-        }
-
-    pub later-rule :
-        (place ≡ 1 → ⊥) → (w : ℕ) → ((k : ℕ) → k < 64 → bitOf w k ≡ inRange (r .least) (r .greatest) 0 (k + 1))
-        → TerminalRule (terminalsIn part) place w (r .allowed / 2 ^ (place - 1))
-    later-rule later w within =
-        record {
-          range =
-              λ k t h.
-              within k h
-              ∙ range-shift (r .least) (r .greatest) k t
-              ∙ ap (λ (q : Record). inRange (q .least) (q .greatest) t (t + suc k)) (sym here)
-              ∙ sym (rw (lt-leb place 1 (omega arith)));
-          allowed = allowed-word;
-        }
+  pub later-rule :
+      (place ≡ 1 → ⊥) → (w : ℕ) → ((k : ℕ) → k < 64 → bitOf w k ≡ inRange (r .least) (r .greatest) 0 (k + 1))
+      → TerminalRule (terminalsIn part) place w (r .allowed / 2 ^ (place - 1))
+  later-rule later w within =
+      record {
+        range =
+            λ k t h.
+            within k h
+            ∙ range-shift (r .least) (r .greatest) k t
+            ∙ ap (λ (q : Record). inRange (q .least) (q .greatest) t (t + suc k)) (sym here)
+            ∙ sym (rw (lt-leb place 1 (omega arith)));
+        allowed = allowed-word;
+      }

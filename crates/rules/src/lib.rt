@@ -4,8 +4,7 @@ use arrays::put_rule;
 use bits::either;
 use bits::single;
 use format::count_in;
-use sheet::Entry;
-use sheet::record_in;
+use format::terminal_at;
 use terminal::in_range;
 ghost use Prim.Native.Nat.{ℕ, _+_, _≤_, _<_};
 ghost use mathlib.Core.Path.{_≡_};
@@ -43,14 +42,7 @@ fn rule_of(part: &[u8], place: usize) -> Rule
     requires { ⌜ (1 ≤ place) × (place ≤ length (terminalsIn (now part))) × (place ≤ pins) ⌝ }
     ensures { λ r. ⌜ TerminalRule (terminalsIn (now (part .entry))) place (r .range) (r .allowed) ⌝ }
 {
-    let entry = record_in(part, place);
-    let Entry::Terminal(t) = entry else {
-        // The section has the place, so this is never reached.
-        return Rule {
-            range: 0,
-            allowed: 0,
-        };
-    };
+    let t = terminal_at(part, place - 1);
     let allowed = t.allowed >> (place - 1);
     if place == 1 {
         return Rule {

@@ -49,7 +49,6 @@ fill-nets-spec =
     Inv-loop
     μ-loop
     loop-holds
-    (λ c. omega arith)
     (λ c κs. search needs)
     (λ c. omega arith)
     (λ c. omega arith)
