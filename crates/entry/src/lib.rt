@@ -40,7 +40,7 @@ pub struct Place {
 }
 
 // The union of the rows up to x of the plane at `base`, each row that is a step of `by` before x.
-pub fn rows(work: &[u16], base: usize, x: usize, by: u64) -> u64
+fn rows(work: &[u16], base: usize, x: usize, by: u64) -> u64
     requires { ⌜ (base + 4 * x + 4 ≤ length (now work)) × (x < 64) ⌝ }
     ensures { λ r. ⌜ ((y : ℕ) → bitOf r y ≡ anyBelow (suc x) (λ (n : ℕ). bitOf by (x - n) && held (now (work .entry)) base n y)) ⌝ }
 {
