@@ -66,11 +66,11 @@ next-other a b c h = ap (λ (t : Bool). leb a c && t) (go (ltb c b) refl)
     go false e = le-ltb c (b + 1) (omega (arith, ltb-false c b e))
 
 -- counts to which 1 was added in the columns from a on, before b
-module _ (a b : ℕ) (before now : List ℕ) (added : Added (upTo a b) before now) (reached : a ≤ b) where
+module _ (a b : ℕ) (before now : List ℕ) (added : Added 1 (upTo a b) before now) (reached : a ≤ b) where
   pub added-next : getD now b 0 ≡ getD before b 0
   added-next = added b ∙ rw (next-same a b reached .0, add-zero)
 
-  pub added-more : b < length now → Added (upTo a (b + 1)) before (set now b (getD now b 0 + 1))
+  pub added-more : b < length now → Added 1 (upTo a (b + 1)) before (set now b (getD now b 0 + 1))
   added-more h c = go (ℕ-discrete c b)
     where
       go : Dec (c ≡ b) → getD (set now b (getD now b 0 + 1)) c 0 ≡ getD before c 0 + cond (upTo a (b + 1) c) 1 0
@@ -78,14 +78,14 @@ module _ (a b : ℕ) (before now : List ℕ) (added : Added (upTo a b) before no
       go (no e) = rw (getD-set-other now b c (getD now b 0 + 1) 0 e, next-other a b c e) (added c)
 
 -- none of them at first, and at last those from a to b
-pub added-none : (a : ℕ) (counts : List ℕ) → Added (upTo a a) counts counts
+pub added-none : (a : ℕ) (counts : List ℕ) → Added 1 (upTo a a) counts counts
 added-none a counts c = rw (none (leb a c) refl, add-zero)
   where
     none : (t : Bool) → leb a c ≡ t → (t && ltb c a) ≡ false
     none true e = le-ltb c a (leb-true a c e)
     none false e = refl
 
-pub added-all : (a b : ℕ) (before now : List ℕ) → Added (upTo a (b + 1)) before now → Added (within a b) before now
+pub added-all : (a b : ℕ) (before now : List ℕ) → Added 1 (upTo a (b + 1)) before now → Added 1 (within a b) before now
 added-all a b before now added c = added c ∙ ap (λ (t : Bool). getD before c 0 + cond (leb a c && t) 1 0) (last (leb c b) refl)
   where
     last : (t : Bool) → leb c b ≡ t → ltb c (b + 1) ≡ t
@@ -98,13 +98,13 @@ module _ (ps : List Pin) (n : ℕ) (span : Span) (answer : span ≡ spanOf n ps)
   by-ends c = spans-from (leftmost n ps) (rightmost n ps) c ∙ rw answer
 
   pub counted :
-      (after : List ℕ) → span .left < span .right → Added (within (span .left) (span .right)) before after
-      → Added (λ (c : ℕ). netSpans ps c n) before after
+      (after : List ℕ) → span .left < span .right → Added 1 (within (span .left) (span .right)) before after
+      → Added 1 (λ (c : ℕ). netSpans ps c n) before after
   counted after h added c =
       let inside : netSpans ps c n ≡ within (span .left) (span .right) c = by-ends c ∙ rw (lt-ltb (span .left) (span .right) h) in
       added c ∙ ap (λ (t : Bool). getD before c 0 + cond t 1 0) (sym inside)
 
-  pub uncounted : span .right ≤ span .left → Added (λ (c : ℕ). netSpans ps c n) before before
+  pub uncounted : span .right ≤ span .left → Added 1 (λ (c : ℕ). netSpans ps c n) before before
   uncounted h c =
       let none : netSpans ps c n ≡ false = by-ends c ∙ rw (le-ltb (span .left) (span .right) h) in
       sym (ap (λ (t : Bool). getD before c 0 + cond t 1 0) none ∙ add-zero (getD before c 0))
@@ -142,7 +142,7 @@ module _ (ns cs : List ℕ) (i : ℕ) (counts : List ℕ) (so-far : Counted ns c
 
     pub counted-last :
         any (eqb (getD ns i 0)) (drop (i + 1) ns) ≡ false → (after : List ℕ)
-        → Added (λ (c : ℕ). netSpans (pinsOf ns cs) c (getD ns i 0)) counts after → Counted ns cs (i + 1) after
+        → Added 1 (λ (c : ℕ). netSpans (pinsOf ns cs) c (getD ns i 0)) counts after → Counted ns cs (i + 1) after
     counted-last later after added c =
         let e = rw (sum-more (netSpans (pinsOf ns cs) c) ns i inside, later) at (so-far c) in
         omega (arith, e, added c)

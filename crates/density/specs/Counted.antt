@@ -30,9 +30,9 @@ countedAt ns cs c = sumLast (netSpans (pinsOf ns cs) c) ns
 abbrev pub within : ℕ → ℕ → ℕ → Bool
 within l r c = leb l c && leb c r
 
--- 1 is added to the counts of those columns that f holds of, and the others are kept
-abbrev pub Added : (ℕ → Bool) → List ℕ → List ℕ → Type 0
-Added f before after = (c : ℕ) → getD after c 0 ≡ getD before c 0 + cond (f c) 1 0
+-- w is added to the counts of those columns that f holds of, and the others are kept
+abbrev pub Added : ℕ → (ℕ → Bool) → List ℕ → List ℕ → Type 0
+Added w f before after = (c : ℕ) → getD after c 0 ≡ getD before c 0 + cond (f c) w 0
 
 -- no count is so large that 1 more would not fit
 abbrev pub Small : List ℕ → Type 0

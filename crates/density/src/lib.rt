@@ -5,7 +5,7 @@ use spans::span_of;
 ghost use mathlib.Core.Path.{_≡_};
 ghost use Prim.Native.Nat.{ℕ, _≤_, _<_};
 ghost use lib.ListN.{length, getD, replicate};
-ghost use Rattle.channel.specs.Density.{maximumTo, density};
+ghost use Rattle.channel.specs.Density.{weight, maximumTo, density};
 ghost use Rattle.sheet.specs.Parts.{sheetIn};
 ghost use Rattle.spans.specs.Spans.{pinsOf};
 ghost use Rattle.density.specs.Counted.{Laid, within, netSpans, Added, Small, countedAt};
@@ -46,7 +46,7 @@ fn count_nets(nets: &[u16], columns: &[u8], counts: &mut [u16])
 // Adds one net to the columns that it crosses: from its leftmost to its rightmost pin, if they differ.
 fn count_net(net: u16, nets: &[u16], columns: &[u8], counts: &mut [u16])
     requires { ⌜ (length (now nets) ≡ length (now columns)) × (length (now counts) ≡ 256) × Small (now counts) ⌝ }
-    ensures { λ r. ⌜ Added (λ (c : ℕ). netSpans (pinsOf (now (nets .entry)) (now (columns .entry))) c net) (now (counts .entry)) (now (counts .exit)) ⌝ }
+    ensures { λ r. ⌜ Added (weight net) (λ (c : ℕ). netSpans (pinsOf (now (nets .entry)) (now (columns .entry))) c net) (now (counts .entry)) (now (counts .exit)) ⌝ }
 {
     let span = span_of(net, nets, columns);
     if span.left < span.right {
@@ -57,7 +57,7 @@ fn count_net(net: u16, nets: &[u16], columns: &[u8], counts: &mut [u16])
 // Adds 1 to the counts of the columns `from` to `to`.
 fn add_span(counts: &mut [u16], from: usize, to: usize)
     requires { ⌜ (from ≤ to) × (to < length (now counts)) × Small (now counts) ⌝ }
-    ensures { λ r. ⌜ Added (within from to) (now (counts .entry)) (now (counts .exit)) ⌝ }
+    ensures { λ r. ⌜ Added 1 (within from to) (now (counts .entry)) (now (counts .exit)) ⌝ }
 {
     let mut c = from;
     while c <= to {

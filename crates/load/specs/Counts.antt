@@ -5,7 +5,7 @@ use mathlib.Core.List.{List, _∷_}
 use mathlib.Core.Bool.{Bool, cond, _&&_, _||_}
 use lib.ListN.{length, getD}
 use lib.Dec.{leb, ltb, eqb}
-use Rattle.channel.specs.Density.{crossing}
+use Rattle.channel.specs.Density.{crossing, weight}
 use Rattle.channel.specs.Word.{Letter, hasTop, hasBottom}
 use Rattle.channel.specs.Word.Letter.{top as T, bottom as B, both as TB}
 use Rattle.load.specs.declared.counting.Cut.{Cut}
@@ -44,9 +44,9 @@ crossesAs a c s =
 unfoldable pub withNet : Cut → Loads → NetPlaces → Loads
 withNet c l s =
     record {
-      top = l .top + cond (crossesAs T c s) 1 0;
-      bottom = l .bottom + cond (crossesAs B c s) 1 0;
-      both = l .both + cond (crossesAs TB c s) 1 0;
+      top = l .top + cond (crossesAs T c s) (weight (s .net)) 0;
+      bottom = l .bottom + cond (crossesAs B c s) (weight (s .net)) 0;
+      both = l .both + cond (crossesAs TB c s) (weight (s .net)) 0;
     }
 
 -- the loads over the first m nets, and over all

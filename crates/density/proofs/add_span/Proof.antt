@@ -11,7 +11,7 @@ use Rattle.density.proofs.add_span.Statement.{statement}
 use Rattle.density.proofs.add_span.Tie as tie
 
 abbrev Inv-loop : tie.InvT-loop
-Inv-loop counts₀ from to c₀ counts c = (from ≤ c) × (c ≤ to + 1) × (length counts ≡ length counts₀) × Added (upTo from c) counts₀ counts
+Inv-loop counts₀ from to c₀ counts c = (from ≤ c) × (c ≤ to + 1) × (length counts ≡ length counts₀) × Added 1 (upTo from c) counts₀ counts
 
 abbrev μ-loop : tie.MeasureT-loop
 μ-loop counts₀ from to c₀ counts c = to + 1 - c
