@@ -53,7 +53,8 @@ module _ {M : Type 1} (𝓤 : URA M) (H : Heap 𝓤) (A : Atoms 𝓤) (mem : Mem
   StepAt = tripleOf 𝓤 H A step.signature (step.spec 𝓤 H A mem run)
 
 -- the call, by whoever holds the reader d and the share q of the lifetime's token
-module _ {M : Type 1} (𝓤 : URA M) (H : Heap 𝓤) (A : Atoms 𝓤) (mem : Memory → SProp 𝓤) (run : Routine → Fun 𝓤) (α : NamedLft) (q : Share) (d : Reader) where
+module _ {M : Type 1} (𝓤 : URA M) (H : Heap 𝓤) (A : Atoms 𝓤) (mem : Memory → SProp 𝓤) (run : Routine → Fun 𝓤)
+    (α : NamedLft) (q : Share) (d : Reader) where
   -- the struct's type and laws, and d's fields' values
   abbrev D : Declared
   D = T.the-type α
@@ -73,16 +74,22 @@ module _ {M : Type 1} (𝓤 : URA M) (H : Heap 𝓤) (A : Atoms 𝓤) (mem : Mem
 
   module _ (W : Given 𝓤 H A) where
     asked : ent 𝓤 (onEntry 𝓤 H A step.signature (α .lft, tt) (q, tt) vd args) (StepAt 𝓤 H A mem run .pre to-step)
-    asked = qed W ((‵ (flft (α .lft) q) ⊛ ‵ ftrue) ∷ ‵ (owns (ShrSlice (named 0) (α .lft) u8 ∷ usize ∷ []) vd args) ∷ []) ∵ join ! $ frame ! $ done !
+    asked =
+        qed W ((‵ (flft (α .lft) q) ⊛ ‵ ftrue) ∷ ‵ (owns (ShrSlice (named 0) (α .lft) u8 ∷ usize ∷ []) vd args) ∷ []) ∵
+        join ! $ frame ! $ done !
 
-    pub apart : d .passed < 2 ^ 64 → ent 𝓤 (⋆ 𝓤 H A ((‵ (flft (α .lft) q) ⊛ ‵ ftrue) ∷ ‵ (Own α d) ∷ [])) (sep 𝓤 (StepAt 𝓤 H A mem run .pre to-step) (sem 𝓤 H A (Own α d)))
+    pub apart : d .passed < 2 ^ 64
+        → ent 𝓤 (⋆ 𝓤 H A ((‵ (flft (α .lft) q) ⊛ ‵ ftrue) ∷ ‵ (Own α d) ∷ []))
+        (sep 𝓤 (StepAt 𝓤 H A mem run .pre to-step) (sem 𝓤 H A (Own α d)))
     apart fits =
         qed W ((‵ (flft (α .lft) q) ⊛ ‵ ftrue) ∷ ‵ (Own α d) ∷ []) ∵
         move ! (1 ∷ []) $ use1 W (‵ (Own α d) ⊛ ‵ (Own α d)) (LL.copy D (T′.the-copy α) 𝓤 H A W .twice d (T′.lowered d ∷ [])) $ split ! $
-        use1 W (given (T′.lowered d ∷ [] ≡ T′.lowered d ∷ []) (‵ (all-own (D .parts) L vd))) (own-open 𝓤 H A W D L vd (T′.lowered d)) $ learn ! (λ _.
+        use1 W (given (T′.lowered d ∷ [] ≡ T′.lowered d ∷ []) (‵ (all-own (D .parts) L vd))) (own-open 𝓤 H A W D L vd (T′.lowered d)) $
+        learn ! (λ _.
         use1 W (‵ (ownAt (D .parts) L 0 (d .sheet)) ⊛ ‵ (rest (D .parts) L 0 vd)) (own-out 𝓤 H A W (D .parts) L 0 vd) $ split ! $
         -- [what `sheet` owns; what `passed` owns; what the struct owns; the token]
-        move ! (1 ∷ []) $ drop ! $ nothing ! $ owned ! usize (Is usize) (uint-makes 𝓤 H A W w64) (d .passed) _ (refl, fits) $ fjoin ! $ move ! (1 ∷ 0 ∷ []) $ fjoin ! $
+        move ! (1 ∷ []) $ drop ! $ nothing ! $ owned ! usize (Is usize) (uint-makes 𝓤 H A W w64) (d .passed) _ (refl, fits) $ fjoin ! $
+        move ! (1 ∷ 0 ∷ []) $ fjoin ! $
         move ! (2 ∷ 0 ∷ []) $ use2 W (raw (StepAt 𝓤 H A mem run .pre to-step)) asked $ frame ! $ done !)
 
   -- what is known of the answer r

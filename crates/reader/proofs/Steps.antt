@@ -25,7 +25,8 @@ abbrev after : List Visit → ℕ → Step
 after vs p = stepIn vs p (record { passed = p + 1 })
 
 -- the place after a step is one further where it found a terminal
-place-next : (vs : List Visit) (k p : ℕ) → (let s : Step = stepIn vs k (record { passed = p + 1 }) in passedAfter s p ≡ p + length (visitIn s))
+place-next : (vs : List Visit) (k p : ℕ)
+    → (let s : Step = stepIn vs k (record { passed = p + 1 }) in passedAfter s p ≡ p + length (visitIn s))
 place-next [] k p = omega arith
 place-next (v ∷ vs) zero p = refl
 place-next (v ∷ vs) (suc k) p = place-next vs k p
