@@ -41,8 +41,10 @@ fn lowest(loads: &[u8], i: usize, j: usize, above: u8, before: u8, diagonal: u8)
 
 // Makes the row of one top pin less, of 0 to q bottom pins, the row of i.
 fn next_row(loads: &[u8], i: usize, q: usize, row: &mut [u8])
-    requires { ⌜ (length (now loads) ≡ loadBytes) × (i ≤ pins) × (q ≤ pins) × (length (now row) ≡ 65) × (0 < i → (j : ℕ) → j ≤ q → getD (now row) j 0 ≡ lowerBound (now loads) (i - 1) j) ⌝ }
-    ensures { λ _. ⌜ (length (now (row .exit)) ≡ 65) × ((j : ℕ) → j ≤ q → getD (now (row .exit)) j 0 ≡ lowerBound (now (loads .entry)) i j) ⌝ }
+    requires { ⌜ (length (now loads) ≡ loadBytes) × (i ≤ pins) × (q ≤ pins) × (length (now row) ≡ 65)
+        × (0 < i → (j : ℕ) → j ≤ q → getD (now row) j 0 ≡ lowerBound (now loads) (i - 1) j) ⌝ }
+    ensures { λ _. ⌜ (length (now (row .exit)) ≡ 65)
+        × ((j : ℕ) → j ≤ q → getD (now (row .exit)) j 0 ≡ lowerBound (now (loads .entry)) i j) ⌝ }
 {
     let mut before: u8 = 0;
     let mut diagonal: u8 = 0;

@@ -51,7 +51,8 @@ pub extern "C" fn cazdrob_search(
     work: &mut [u16],
     density: &mut u32,
 ) -> u32
-    ensures { λ r. ⌜ HostSearches (now (s .entry)) (now (columns .entry)) (now (work .entry)) (now (columns .exit)) (now (work .exit)) (now (density .exit)) r ⌝ }
+    ensures { λ r. ⌜ HostSearches (now (s .entry)) (now (columns .entry)) (now (work .entry))
+        (now (columns .exit)) (now (work .exit)) (now (density .exit)) r ⌝ }
 {
     let answer = search::search(s, columns, work);
     *density = wide(search::density_of(answer));

@@ -80,7 +80,8 @@ fn start(i: usize, j: usize, x: usize) -> u64
 // The last column holds a top pin alone.
 fn top(work: &[u16], rules: &[u64], loads: &[u8], grid: Grid, bound: u8, place: Place) -> u64
     requires { ⌜ Sides (now rules) (now loads) × Room (now work) grid place ⌝ }
-    ensures { λ r. ⌜ ((y : ℕ) → y < 64 → bitOf r y ≡ topPart (now (rules .entry)) (now (loads .entry)) bound (place .i) (place .j) (held (now (work .entry)) (place .at - grid .stride)) (place .x) y) ⌝ }
+    ensures { λ r. ⌜ ((y : ℕ) → y < 64 → bitOf r y ≡ topPart (now (rules .entry)) (now (loads .entry)) bound (place .i) (place .j)
+        (held (now (work .entry)) (place .at - grid .stride)) (place .x) y) ⌝ }
 {
     let i = place.i;
     let j = place.j;
@@ -103,7 +104,8 @@ fn top(work: &[u16], rules: &[u64], loads: &[u8], grid: Grid, bound: u8, place: 
 // A bottom pin alone.
 fn bottom(work: &[u16], rules: &[u64], loads: &[u8], grid: Grid, bound: u8, place: Place) -> u64
     requires { ⌜ Sides (now rules) (now loads) × Room (now work) grid place ⌝ }
-    ensures { λ r. ⌜ ((y : ℕ) → y < 64 → bitOf r y ≡ bottomPart (now (rules .entry)) (now (loads .entry)) bound (place .i) (place .j) (held (now (work .entry)) (place .at - grid .size)) (place .x) y) ⌝ }
+    ensures { λ r. ⌜ ((y : ℕ) → y < 64 → bitOf r y ≡ bottomPart (now (rules .entry)) (now (loads .entry)) bound (place .i) (place .j)
+        (held (now (work .entry)) (place .at - grid .size)) (place .x) y) ⌝ }
 {
     let i = place.i;
     let j = place.j;
@@ -125,7 +127,8 @@ fn bottom(work: &[u16], rules: &[u64], loads: &[u8], grid: Grid, bound: u8, plac
 // Both.
 fn pair(work: &[u16], rules: &[u64], loads: &[u8], grid: Grid, bound: u8, place: Place) -> u64
     requires { ⌜ Sides (now rules) (now loads) × Room (now work) grid place ⌝ }
-    ensures { λ r. ⌜ ((y : ℕ) → y < 64 → bitOf r y ≡ bothPart (now (rules .entry)) (now (loads .entry)) bound (place .i) (place .j) (held (now (work .entry)) (place .at - (grid .stride + grid .size))) (place .x) y) ⌝ }
+    ensures { λ r. ⌜ ((y : ℕ) → y < 64 → bitOf r y ≡ bothPart (now (rules .entry)) (now (loads .entry)) bound (place .i) (place .j)
+        (held (now (work .entry)) (place .at - (grid .stride + grid .size))) (place .x) y) ⌝ }
 {
     let i = place.i;
     let j = place.j;
@@ -163,7 +166,9 @@ fn pair(work: &[u16], rules: &[u64], loads: &[u8], grid: Grid, bound: u8, place:
 // The word of a place.
 pub fn word(work: &[u16], rules: &[u64], loads: &[u8], grid: Grid, bound: u8, place: Place) -> u64
     requires { ⌜ Sides (now rules) (now loads) × Room (now work) grid place ⌝ }
-    ensures { λ r. ⌜ ((y : ℕ) → y < 64 → bitOf r y ≡ entry (now (rules .entry)) (now (loads .entry)) bound (place .i) (place .j) (held (now (work .entry)) (place .at - grid .stride)) (held (now (work .entry)) (place .at - grid .size)) (held (now (work .entry)) (place .at - (grid .stride + grid .size))) (place .x) y) ⌝ }
+    ensures { λ r. ⌜ ((y : ℕ) → y < 64 → bitOf r y ≡ entry (now (rules .entry)) (now (loads .entry)) bound (place .i) (place .j)
+        (held (now (work .entry)) (place .at - grid .stride)) (held (now (work .entry)) (place .at - grid .size))
+        (held (now (work .entry)) (place .at - (grid .stride + grid .size))) (place .x) y) ⌝ }
 {
     let nothing = start(place.i, place.j, place.x);
     let one = top(work, rules, loads, grid, bound, place);

@@ -63,7 +63,8 @@ fn put_entry(out: &mut [u8], at: usize, side: Side, place: usize, entry: Entry, 
 // A line for each terminal of a side's section and its column.
 pub fn put_side(side: Side, part: &[u8], columns: &[u8], out: &mut [u8], at: usize) -> usize
     requires { ⌜ at + 28 * length (now columns) ≤ length (now out) ⌝ }
-    ensures { λ r. ⌜ Wrote (now (out .entry)) at (lines (visits side 1 (terminalsIn (now (part .entry)))) (now (columns .entry))) (now (out .exit)) r ⌝ }
+    ensures { λ r. ⌜ Wrote (now (out .entry)) at (lines (visits side 1 (terminalsIn (now (part .entry)))) (now (columns .entry)))
+        (now (out .exit)) r ⌝ }
     ensures { λ r. ⌜ r ≤ at + 28 * length (now (columns .entry)) ⌝ }
 {
     let mut end = at;

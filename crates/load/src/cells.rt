@@ -37,8 +37,10 @@ fn possible_loads(l: Loads, i: usize, j: usize) -> Loads
 
 // Puts the loads of the cut (i, j) into the table.
 fn write_cell(tops: &[u16], bottoms: &[u16], places: &[u16], i: usize, j: usize, loads: &mut [u8])
-    requires { ⌜ Listed (now tops) (now bottoms) (now places) × (i ≤ length (now tops)) × (j ≤ length (now bottoms)) × (length (now loads) ≡ loadBytes) ⌝ }
-    ensures { λ r. ⌜ Written (now (tops .entry)) (now (bottoms .entry)) (now (loads .entry)) (now (loads .exit)) (λ (x y : ℕ). (x ≡ i) × (y ≡ j)) ⌝ }
+    requires { ⌜ Listed (now tops) (now bottoms) (now places) × (i ≤ length (now tops)) × (j ≤ length (now bottoms))
+        × (length (now loads) ≡ loadBytes) ⌝ }
+    ensures { λ r. ⌜ Written (now (tops .entry)) (now (bottoms .entry)) (now (loads .entry)) (now (loads .exit))
+        (λ (x y : ℕ). (x ≡ i) × (y ≡ j)) ⌝ }
 {
     let top = stand_at(tops, i);
     let bottom = stand_at(bottoms, j);
@@ -49,7 +51,8 @@ fn write_cell(tops: &[u16], bottoms: &[u16], places: &[u16], i: usize, j: usize,
 // Puts the loads of all cuts with i top pins into the table.
 fn write_row(tops: &[u16], bottoms: &[u16], places: &[u16], i: usize, loads: &mut [u8])
     requires { ⌜ Listed (now tops) (now bottoms) (now places) × (i ≤ length (now tops)) × (length (now loads) ≡ loadBytes) ⌝ }
-    ensures { λ r. ⌜ Written (now (tops .entry)) (now (bottoms .entry)) (now (loads .entry)) (now (loads .exit)) (λ (x y : ℕ). (x ≡ i) × (y < length (now (bottoms .entry)) + 1)) ⌝ }
+    ensures { λ r. ⌜ Written (now (tops .entry)) (now (bottoms .entry)) (now (loads .entry)) (now (loads .exit))
+        (λ (x y : ℕ). (x ≡ i) × (y < length (now (bottoms .entry)) + 1)) ⌝ }
 {
     let mut j = 0;
     while j < bottoms.len() + 1 {

@@ -38,7 +38,8 @@ pub fn out_of_range<'a, 'b>(
     bottoms: &'b [u8],
 ) -> bool
     requires { ⌜ (length (now tops) ≡ length (terminalsIn (now top))) × (length (now bottoms) ≡ length (terminalsIn (now bottom))) ⌝ }
-    ensures { λ r. ⌜ r ≡ not (sideKept (terminalsIn (now (top .entry))) (now (tops .entry)) && sideKept (terminalsIn (now (bottom .entry))) (now (bottoms .entry))) ⌝ }
+    ensures { λ r. ⌜ r ≡ not (sideKept (terminalsIn (now (top .entry))) (now (tops .entry))
+        && sideKept (terminalsIn (now (bottom .entry))) (now (bottoms .entry))) ⌝ }
 {
     let mut found = false;
     let mut side = 0;

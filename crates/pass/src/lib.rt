@@ -80,7 +80,8 @@ fn farther(ahead: u8) -> u8
 // The least bound under which all pins can be placed, where `MOST` is such a bound and `failed` is none. It is most often close above
 // `failed`, so the passes look there first.
 fn least(work: &mut [u16], rules: &[u64], loads: &[u8], plan: Plan, failed: u8) -> u8
-    requires { ⌜ Given (now work) (now rules) (now loads) plan × (feasibleIn (now rules) (now loads) plan failed ≡ false) × (feasibleIn (now rules) (now loads) plan mostDensity ≡ true) × Rising (feasibleIn (now rules) (now loads) plan) ⌝ }
+    requires { ⌜ Given (now work) (now rules) (now loads) plan × (feasibleIn (now rules) (now loads) plan failed ≡ false)
+        × (feasibleIn (now rules) (now loads) plan mostDensity ≡ true) × Rising (feasibleIn (now rules) (now loads) plan) ⌝ }
     ensures { λ r. ⌜ Bounded (now (rules .entry)) (now (loads .entry)) plan (now (work .entry)) (now (work .exit)) r ⌝ }
 {
     let mut low = failed + 1;
@@ -105,8 +106,10 @@ fn place_above(
     failed: u8,
     columns: &mut [u8],
 ) -> Outcome
-    requires { ⌜ Given (now work) (now rules) (now loads) plan × (plan .p + plan .q ≤ length (now columns)) × (feasibleIn (now rules) (now loads) plan failed ≡ false) × Rising (feasibleIn (now rules) (now loads) plan) ⌝ }
-    ensures { λ r. ⌜ Placed (now (rules .entry)) (now (loads .entry)) plan (now (work .entry)) (now (work .exit)) (now (columns .entry)) (now (columns .exit)) r ⌝ }
+    requires { ⌜ Given (now work) (now rules) (now loads) plan × (plan .p + plan .q ≤ length (now columns))
+        × (feasibleIn (now rules) (now loads) plan failed ≡ false) × Rising (feasibleIn (now rules) (now loads) plan) ⌝ }
+    ensures { λ r. ⌜ Placed (now (rules .entry)) (now (loads .entry)) plan
+        (now (work .entry)) (now (work .exit)) (now (columns .entry)) (now (columns .exit)) r ⌝ }
 {
     if try_bound(work, rules, loads, plan, MOST) {
         let bound = least(work, rules, loads, plan, failed);
@@ -126,8 +129,10 @@ pub fn place(
     plan: Plan,
     columns: &mut [u8],
 ) -> Outcome
-    requires { ⌜ Given (now work) (now rules) (now loads) plan × (plan .p + plan .q ≤ length (now columns)) × Rising (feasibleIn (now rules) (now loads) plan) ⌝ }
-    ensures { λ r. ⌜ Placed (now (rules .entry)) (now (loads .entry)) plan (now (work .entry)) (now (work .exit)) (now (columns .entry)) (now (columns .exit)) r ⌝ }
+    requires { ⌜ Given (now work) (now rules) (now loads) plan × (plan .p + plan .q ≤ length (now columns))
+        × Rising (feasibleIn (now rules) (now loads) plan) ⌝ }
+    ensures { λ r. ⌜ Placed (now (rules .entry)) (now (loads .entry)) plan
+        (now (work .entry)) (now (work .exit)) (now (columns .entry)) (now (columns .exit)) r ⌝ }
 {
     let bound = lower_bound(loads, plan.p, plan.q);
     if try_bound(work, rules, loads, plan, bound) {

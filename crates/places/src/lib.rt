@@ -112,7 +112,8 @@ pub fn places_at(places: &[u16], k: usize) -> NetPlaces
 // Gives how many the list has then.
 fn list_net(nets: &[u16], p: usize, m: usize, places: &mut [u16], k: usize) -> usize
     requires { ⌜ TwoSides (now nets) p × (m < length (now nets)) × (k ≤ m) × (length (now places) ≡ 640) ⌝ }
-    ensures { λ r. ⌜ Put (take p (now (nets .entry))) (drop p (now (nets .entry))) (now (nets .entry)) m (now (places .entry)) (now (places .exit)) k r ⌝ }
+    ensures { λ r. ⌜ Put (take p (now (nets .entry))) (drop p (now (nets .entry))) (now (nets .entry)) m
+        (now (places .entry)) (now (places .exit)) k r ⌝ }
 {
     let net = nets[m];
     if occurs(net, nets, m + 1) {
@@ -126,7 +127,8 @@ fn list_net(nets: &[u16], p: usize, m: usize, places: &mut [u16], k: usize) -> u
 // Lists the places of all nets, each once, and gives how many nets there are.
 pub fn list_places(nets: &[u16], p: usize, places: &mut [u16]) -> usize
     requires { ⌜ TwoSides (now nets) p × (length (now places) ≡ 640) ⌝ }
-    ensures { λ r. ⌜ AllPlaces (take p (now (nets .entry))) (drop p (now (nets .entry))) (now (nets .entry)) (now (places .entry)) (now (places .exit)) r ⌝ }
+    ensures { λ r. ⌜ AllPlaces (take p (now (nets .entry))) (drop p (now (nets .entry))) (now (nets .entry))
+        (now (places .entry)) (now (places .exit)) r ⌝ }
 {
     let mut k = 0;
     let mut m = 0;

@@ -49,7 +49,9 @@ fn put_refusal(out: &mut [u8], number: usize) -> usize
 fn put_result(input: &[u8], density: u8, columns: &[u8], out: &mut [u8]) -> usize
     requires { ⌜ shapeOf (now input) .pins ≤ length (now columns) ⌝ }
     requires { ⌜ 14 + 28 * length (now columns) ≤ length (now out) ⌝ }
-    ensures { λ r. ⌜ Wrote (now (out .entry)) 0 (headed density (lines (visitsOf (now (input .entry))) (take (shapeOf (now (input .entry)) .pins) (now (columns .entry))))) (now (out .exit)) r ⌝ }
+    ensures { λ r. ⌜ Wrote (now (out .entry)) 0
+        (headed density (lines (visitsOf (now (input .entry))) (take (shapeOf (now (input .entry)) .pins) (now (columns .entry)))))
+        (now (out .exit)) r ⌝ }
     ensures { λ r. ⌜ r ≤ 14 + 28 * length (now (columns .entry)) ⌝ }
 {
     let end = put_field(out, 0, b"density ", density as usize, DIGITS);
@@ -63,8 +65,10 @@ fn put_result(input: &[u8], density: u8, columns: &[u8], out: &mut [u8]) -> usiz
 
 // A line for each terminal of a sheet that opened with this layout, top then bottom.
 fn put_sides(input: &[u8], layout: Layout, columns: &[u8], out: &mut [u8], at: usize) -> usize
-    requires { ⌜ (openedOf (now input) ≡ Opened.Sound layout) × (layout .shape .pins ≤ length (now columns)) × (at + 28 * length (now columns) ≤ length (now out)) ⌝ }
-    ensures { λ r. ⌜ Wrote (now (out .entry)) at (lines (visitsOf (now (input .entry))) (take (layout .shape .pins) (now (columns .entry)))) (now (out .exit)) r ⌝ }
+    requires { ⌜ (openedOf (now input) ≡ Opened.Sound layout) × (layout .shape .pins ≤ length (now columns))
+        × (at + 28 * length (now columns) ≤ length (now out)) ⌝ }
+    ensures { λ r. ⌜ Wrote (now (out .entry)) at (lines (visitsOf (now (input .entry))) (take (layout .shape .pins) (now (columns .entry))))
+        (now (out .exit)) r ⌝ }
     ensures { λ r. ⌜ r ≤ at + 28 * length (now (columns .entry)) ⌝ }
 {
     let shape = layout.shape;

@@ -69,7 +69,9 @@ pub fn search_both(
     d: &mut [u8],
     v: &mut [u16],
 ) -> Both
-    ensures { λ r. ⌜ SearchesBoth (now (a .entry)) (now (b .entry)) (now (c .entry)) (now (u .entry)) (now (c .exit)) (now (u .exit)) (now (d .entry)) (now (v .entry)) (now (d .exit)) (now (v .exit)) r ⌝ }
+    ensures { λ r. ⌜ SearchesBoth (now (a .entry)) (now (b .entry))
+        (now (c .entry)) (now (u .entry)) (now (c .exit)) (now (u .exit))
+        (now (d .entry)) (now (v .entry)) (now (d .exit)) (now (v .exit)) r ⌝ }
 {
     let first = search(a, c, u);
     let second = search(b, d, v);

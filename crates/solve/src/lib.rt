@@ -42,7 +42,8 @@ fn make_plan(l: usize, p: usize, q: usize) -> Plan
 // Writes the columns of the best assignment, if there is one. What it leaves in the cells that it works in is for `solve` to clear.
 fn find(top: &[u8], bottom: &[u8], shape: Shape, columns: &mut [u8], work: &mut [u16]) -> Outcome
     requires { ⌜ Asked (now top) (now bottom) shape (length (now columns)) (length (now work)) ⌝ }
-    ensures { λ r. ⌜ Worked (now (top .entry)) (now (bottom .entry)) shape (now (columns .entry)) (now (columns .exit)) (now (work .entry)) (now (work .exit)) r ⌝ }
+    ensures { λ r. ⌜ Worked (now (top .entry)) (now (bottom .entry)) shape
+        (now (columns .entry)) (now (columns .exit)) (now (work .entry)) (now (work .exit)) r ⌝ }
 {
     let l = shape.columns;
     let p = shape.top;
@@ -83,7 +84,8 @@ pub fn solve(
     work: &mut [u16],
 ) -> Outcome
     requires { ⌜ Asked (now top) (now bottom) shape (length (now columns)) (length (now work)) ⌝ }
-    ensures { λ r. ⌜ Solved (now (top .entry)) (now (bottom .entry)) shape (now (columns .entry)) (now (columns .exit)) (now (work .entry)) (now (work .exit)) r ⌝ }
+    ensures { λ r. ⌜ Solved (now (top .entry)) (now (bottom .entry)) shape
+        (now (columns .entry)) (now (columns .exit)) (now (work .entry)) (now (work .exit)) r ⌝ }
 {
     let outcome = find(top, bottom, shape, columns, work);
     clear(work, shape.cells);

@@ -20,8 +20,10 @@ fn fill_plane(
     j: usize,
     at: usize,
 )
-    requires { ⌜ Sides (now rules) (now loads) × Measures grid × (i ≤ 64) × (j < grid .across) × (at ≡ baseOf grid i j) × (at + grid .size ≤ length (now work)) × Earlier (now rules) (now loads) bound grid i j (now work) ⌝ }
-    ensures { λ _. ⌜ Filled (now (rules .entry)) (now (loads .entry)) bound grid i (j + 1) (at + grid .size) (now (work .entry)) (now (work .exit)) ⌝ }
+    requires { ⌜ Sides (now rules) (now loads) × Measures grid × (i ≤ 64) × (j < grid .across) × (at ≡ baseOf grid i j)
+        × (at + grid .size ≤ length (now work)) × Earlier (now rules) (now loads) bound grid i j (now work) ⌝ }
+    ensures { λ _. ⌜ Filled (now (rules .entry)) (now (loads .entry)) bound grid i (j + 1) (at + grid .size)
+        (now (work .entry)) (now (work .exit)) ⌝ }
 {
     let rows = grid.rows;
     let mut x = 0;
@@ -42,8 +44,10 @@ fn fill_row(
     i: usize,
     at: usize,
 )
-    requires { ⌜ Sides (now rules) (now loads) × Measures grid × (i ≤ 64) × (at ≡ i * grid .stride) × (at + grid .stride ≤ length (now work)) × Earlier (now rules) (now loads) bound grid i 0 (now work) ⌝ }
-    ensures { λ _. ⌜ Filled (now (rules .entry)) (now (loads .entry)) bound grid (i + 1) 0 (at + grid .stride) (now (work .entry)) (now (work .exit)) ⌝ }
+    requires { ⌜ Sides (now rules) (now loads) × Measures grid × (i ≤ 64) × (at ≡ i * grid .stride)
+        × (at + grid .stride ≤ length (now work)) × Earlier (now rules) (now loads) bound grid i 0 (now work) ⌝ }
+    ensures { λ _. ⌜ Filled (now (rules .entry)) (now (loads .entry)) bound grid (i + 1) 0 (at + grid .stride)
+        (now (work .entry)) (now (work .exit)) ⌝ }
 {
     let across = grid.across;
     let size = grid.size;
@@ -59,7 +63,8 @@ fn fill_row(
 // Fills the planes of 0 to p. A cell that is in no row of theirs stays as it was.
 pub fn fill(work: &mut [u16], rules: &[u64], loads: &[u8], grid: Grid, bound: u8, p: usize)
     requires { ⌜ Sides (now rules) (now loads) × Fits (now work) grid p ⌝ }
-    ensures { λ _. ⌜ Filled (now (rules .entry)) (now (loads .entry)) bound grid (p + 1) 0 ((p + 1) * grid .stride) (now (work .entry)) (now (work .exit)) ⌝ }
+    ensures { λ _. ⌜ Filled (now (rules .entry)) (now (loads .entry)) bound grid (p + 1) 0 ((p + 1) * grid .stride)
+        (now (work .entry)) (now (work .exit)) ⌝ }
 {
     let stride = grid.stride;
     let mut at = 0;

@@ -11,7 +11,8 @@ ghost use mathlib.Core.Bool.{true, cond};
 ghost use lib.ListN.{length, set};
 ghost use Rattle.arrays.specs.Rules.{pins, ruleWords};
 ghost use Rattle.bits.specs.Bits.{bitOf};
-ghost use Rattle.walk.specs.Walk.{stepsTo, standsAt, lefts, emptyMeets, topMeets, bottomFits, choiceIn, hasTopPin, hasBottomPin, behind, written, walkColumns};
+ghost use Rattle.walk.specs.Walk.{stepsTo, standsAt, lefts, emptyMeets, topMeets, bottomFits, choiceIn};
+ghost use Rattle.walk.specs.Walk.{hasTopPin, hasBottomPin, behind, written, walkColumns};
 ghost use Rattle.walk.specs.Walking.{Lies, Walks};
 
 // How far the walk has come: c columns are still to be lettered, i top and j bottom pins to be placed, and the pins
@@ -243,7 +244,8 @@ pub fn walk(
     columns: &mut [u8],
 )
     requires { ⌜ Lies (now work) (now rules) grid p q × (l ≤ 64) × (p + q ≤ length (now columns)) ⌝ }
-    ensures { λ _. ⌜ now (columns .exit) ≡ walkColumns (now (work .entry)) (now (rules .entry)) grid p q l (record { c = l; i = p; j = q; top = 0; bottom = 0 }) (now (columns .entry)) ⌝ }
+    ensures { λ _. ⌜ now (columns .exit) ≡ walkColumns (now (work .entry)) (now (rules .entry)) grid p q l
+        (record { c = l; i = p; j = q; top = 0; bottom = 0 }) (now (columns .entry)) ⌝ }
 {
     let mut m = Mark {
         c: l,
