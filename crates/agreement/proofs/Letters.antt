@@ -23,7 +23,8 @@ use Rattle.reach.proofs.Bounds.{Held, reach-held}
 use Rattle.pass.specs.declared.Plan.{Plan}
 use Rattle.walk.specs.declared.Mark.{Mark}
 use Rattle.rules.specs.Sides.{SideRules}
-use Rattle.walk.specs.Walk.{stepsTo, standsAt, numberFits, lefts, rowFits, rowMeets, someLeft, someHere, emptyFits, topFits, bottomFits, choiceIn}
+use Rattle.walk.specs.Walk.{stepsTo, standsAt, numberFits, lefts, rowFits, rowMeets, someLeft}
+use Rattle.walk.specs.Walk.{someHere, emptyFits, topFits, bottomFits, choiceIn}
 use Rattle.agreement.specs.Ready.{Ready}
 use Rattle.agreement.proofs.Feasible.{same-columns, row-there, some-row, number-there}
 

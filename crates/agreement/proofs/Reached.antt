@@ -16,7 +16,8 @@ use Rattle.arrays.specs.Rules.{rangeAt, allowedAt}
 use Rattle.arrays.specs.Loads.{loadAt}
 use Rattle.entry.specs.Entry.{alone, startPart, bothPart, entry, bottomsOnly, withTops, cell}
 use Rattle.reach.specs.Reach.{reach}
-use Rattle.reach.proofs.Reaches.{reach-none, reach-top, reach-bottom, reach-both, reach-no-top, reach-no-bottom, reach-only-bottoms, reach-only-tops}
+use Rattle.reach.proofs.Reaches.{reach-none, reach-top, reach-bottom, reach-both, reach-no-top}
+use Rattle.reach.proofs.Reaches.{reach-no-bottom, reach-only-bottoms, reach-only-tops}
 use Rattle.reach.proofs.Bounds.{reach-held}
 use Rattle.agreement.specs.Ready.{SheetLoads}
 use Rattle.rules.specs.Sides.{SideRules}

@@ -121,7 +121,9 @@ bit-shl a e k h = bit-mod (a * 2 ^ e) k h ∙ bit-times a e k
 -- the bits of 2 ^ m - 1
 pub bit-ones : (m k : ℕ) → k < m → bitOf (2 ^ m - 1) k ≡ true
 unfolding bitOf
-bit-ones m k h = eq-eqb _ 1 (ap (λ (n : ℕ). n % 2) (ap (λ (e : ℕ). (2 ^ e - 1) / 2 ^ k) size ∙ ap (λ (n : ℕ). n / 2 ^ k) (ones-split (m - k - 1 + 1) k) ∙ high _ k (ones-lt k)) ∙ last)
+bit-ones m k h =
+    eq-eqb _ 1 (ap (λ (n : ℕ). n % 2)
+    (ap (λ (e : ℕ). (2 ^ e - 1) / 2 ^ k) size ∙ ap (λ (n : ℕ). n / 2 ^ k) (ones-split (m - k - 1 + 1) k) ∙ high _ k (ones-lt k)) ∙ last)
   where
     size : m ≡ (m - k - 1) + 1 + k
     size = omega arith

@@ -76,8 +76,10 @@ module _ (rules loads : List ℕ) (bound : ℕ) where
       → alone load bound allowed range plane x y ≡ false
   alone-none load allowed range plane x y (inl h) = rw (lt-leb load bound h)
   alone-none load allowed range plane x y (inr h) =
-      rw
-      (anyBelow-none (suc x) (λ (n : ℕ). bitOf range (x - n) && plane n y) (λ n l. rw (h n y) (and-false (bitOf range (x - n)))), and-false (bitOf allowed x))
+      rw (
+        anyBelow-none (suc x) (λ (n : ℕ). bitOf range (x - n) && plane n y) (λ n l. rw (h n y) (and-false (bitOf range (x - n)))),
+        and-false (bitOf allowed x),
+      )
       (and-false (leb load bound))
 
   module _ (i j x y : ℕ) where
@@ -89,8 +91,10 @@ module _ (rules loads : List ℕ) (bound : ℕ) where
     bottom-none :
         (before : ℕ → ℕ → Bool) → (bound < loadAt loads i j 1) ⊎ Empty before → bottomPart rules loads bound i j before x y ≡ false
     bottom-none before h =
-        rw
-        (alone-none (loadAt loads i j 1) (allowedAt rules 1 j) (rangeAt rules 1 j) (λ (n m : ℕ). before m n) y x (turned h), and-false (ltb (x + i) (y + j)))
+        rw (
+          alone-none (loadAt loads i j 1) (allowedAt rules 1 j) (rangeAt rules 1 j) (λ (n m : ℕ). before m n) y x (turned h),
+          and-false (ltb (x + i) (y + j)),
+        )
         (and-false (ltb 0 j))
       where
         turned : {A : Type 0} → A ⊎ Empty before → A ⊎ Empty (λ (n m : ℕ). before m n)
@@ -103,9 +107,11 @@ module _ (rules loads : List ℕ) (bound : ℕ) where
     both-none diagonal (inr h) =
         rw (
           anyBelow-none (suc y)
-              (λ (m : ℕ). bitOf (rangeAt rules 1 j) (y - m) && anyBelow (suc x) (λ (n : ℕ). bitOf (rangeAt rules 0 i) (x - n) && diagonal n m))
+              (λ (m : ℕ). bitOf (rangeAt rules 1 j) (y - m)
+              && anyBelow (suc x) (λ (n : ℕ). bitOf (rangeAt rules 0 i) (x - n) && diagonal n m))
               (λ m l. rw
-              (anyBelow-none (suc x) (λ (n : ℕ). bitOf (rangeAt rules 0 i) (x - n) && diagonal n m) (λ n k. rw (h n m) (and-false (bitOf (rangeAt rules 0 i) (x - n)))))
+              (anyBelow-none (suc x) (λ (n : ℕ). bitOf (rangeAt rules 0 i) (x - n) && diagonal n m)
+              (λ n k. rw (h n m) (and-false (bitOf (rangeAt rules 0 i) (x - n)))))
               (and-false (bitOf (rangeAt rules 1 j) (y - m)))),
           and-false (bitOf (allowedAt rules 1 j) y),
           and-false (bitOf (allowedAt rules 0 i) x),
@@ -165,7 +171,8 @@ module _ (rules loads : List ℕ) (bound : ℕ) where
   tops-none i least less empty zero h =
       entry-none i 0 (least 0) 0 0 _ _ _ (empty 0) (λ l. absurd (omega arith)) (λ l. absurd (omega arith)) h
   tops-none i least less empty (suc j) h =
-      entry-none i (suc j) (least (suc j)) (topsLowest loads i least j) (least j) _ _ _ (empty (suc j)) (tops-none i least less empty j) (empty j) h
+      entry-none i (suc j) (least (suc j)) (topsLowest loads i least j) (least j) _ _ _ (empty (suc j))
+      (tops-none i least less empty j) (empty j) h
 
   -- nothing is reached under a bound below the lower bound
   pub cell-none : (i j : ℕ) → bound < lowerBound loads i j → (x y : ℕ) → cell rules loads bound i j x y ≡ false
@@ -197,7 +204,8 @@ module _ (loads : List ℕ) (i : ℕ) (old : List ℕ) where
   pub row-more :
       (q j before diagonal : ℕ) (new : List ℕ) → (0 < i → (k : ℕ) → k ≤ q → getD old k 0 ≡ lowerBound loads (i - 1) k) → j ≤ q
       → j < length old → Row loads i j old new before diagonal
-      → Row loads i (j + 1) old (set new j (lowest loads i j (getD new j 0) before diagonal)) (lowest loads i j (getD new j 0) before diagonal)
+      → Row loads i (j + 1) old (set new j (lowest loads i j (getD new j 0) before diagonal))
+      (lowest loads i j (getD new j 0) before diagonal)
       (getD new j 0)
   row-more q j before diagonal new less h room r =
       record {

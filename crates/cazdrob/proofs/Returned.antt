@@ -19,5 +19,6 @@ module _ {bytes buffer work buffer' work' : List ℕ} {density' r : ℕ} (host :
   pub host-search : Returned bytes buffer work buffer' work' r density'
   host-search = rw (host .number, host .density) (one-search _ _ _ _ _ _ library-search)
 
-pub host-measurement : {bytes columns : List ℕ} {density' r : ℕ} → HostMeasures bytes columns density' r → measure.Returned bytes columns r density'
+pub host-measurement : {bytes columns : List ℕ} {density' r : ℕ} → HostMeasures bytes columns density' r
+    → measure.Returned bytes columns r density'
 host-measurement host = rw (host .number, host .density) (one-measurement _ _ _ refl)

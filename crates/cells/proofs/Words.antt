@@ -53,7 +53,8 @@ word-put-other cells at w b h =
     stays k l (inl g) = cell-put cells at w k (inl (omega arith))
     stays k l (inr g) = cell-put cells at w k (inr (omega arith))
 
-    join : {x y z u x' y' z' u' : ℕ} → x ≡ x' → y ≡ y' → z ≡ z' → u ≡ u' → x + 65536 * (y + 65536 * (z + 65536 * u)) ≡ x' + 65536 * (y' + 65536 * (z' + 65536 * u'))
+    join : {x y z u x' y' z' u' : ℕ} → x ≡ x' → y ≡ y' → z ≡ z' → u ≡ u'
+        → x + 65536 * (y + 65536 * (z + 65536 * u)) ≡ x' + 65536 * (y' + 65536 * (z' + 65536 * u'))
     join p q r t = omega arith
 
 -- four cells put in are read back

@@ -29,7 +29,8 @@ pub anyBelow-to : (n : ℕ) (f : ℕ → Bool) → anyBelow n f ≡ true → (k 
 anyBelow-to zero f e = absurd (true≢false (sym e))
 anyBelow-to (suc n) f e = by-test (anyBelow-to n f) (f n) refl e
   where
-    by-test : (anyBelow n f ≡ true → (k : ℕ) × (k < n) × (f k ≡ true)) → (b : Bool) → f n ≡ b → (b || anyBelow n f) ≡ true → (k : ℕ) × (k < suc n) × (f k ≡ true)
+    by-test : (anyBelow n f ≡ true → (k : ℕ) × (k < n) × (f k ≡ true)) → (b : Bool) → f n ≡ b → (b || anyBelow n f) ≡ true
+        → (k : ℕ) × (k < suc n) × (f k ≡ true)
     by-test rest true t o = (n, omega arith, t)
     by-test rest false t o = let (k, l, g) = rest o in (k, omega arith, g)
 

@@ -15,7 +15,8 @@ use Rattle.channel.specs.Sheet.{Terminal, Sheet}
 use Rattle.channel.specs.Density.{pins, crossing, crosses, weight, weightOf, netsOf, columnDensity, maximumTo, density}
 use Rattle.channel.specs.Word.{Letter, hasTop, hasBottom, columnsOf}
 use Rattle.channel.specs.Word.Letter.{empty, top, bottom, both}
-use Rattle.channel.specs.Cut.{count, nets, has, leftOf, hereOf, rightOf, leftNets, hereNets, rightNets, crossesCut, load, occupied, firstLoad, wordLoad}
+use Rattle.channel.specs.Cut.{count, nets, has, leftOf, hereOf, rightOf, leftNets, hereNets}
+use Rattle.channel.specs.Cut.{rightNets, crossesCut, load, occupied, firstLoad, wordLoad}
 use Rattle.channel.proofs.Pins.{Test, word-cut, any-swap}
 
 -- the three tests of a crossing: left of column c, in it, right of it
@@ -137,11 +138,13 @@ max-assoc : (a b c : ℕ) → max (max a b) c ≡ max a (max b c)
 max-assoc a b c = omega arith
 
 -- a word's empty columns add nothing to m, where m is at least the load of an empty column just right of the word
-only-occupied : (s : Sheet) (w : List Letter) (m : ℕ) → load s empty (count hasTop w) (count hasBottom w) ≤ m → max m (columnsLoad s w) ≡ max m (wordLoad s w)
+only-occupied : (s : Sheet) (w : List Letter) (m : ℕ) → load s empty (count hasTop w) (count hasBottom w) ≤ m
+    → max m (columnsLoad s w) ≡ max m (wordLoad s w)
 unfolding columnsLoad
 only-occupied s [] m h = refl
 only-occupied s (a ∷ w) m h =
-    let new : load s empty (count hasTop w) (count hasBottom w) ≤ max m (firstLoad s a w) = le-trans (empty-load s a (count hasTop w) (count hasBottom w)) (le-max-right m (firstLoad s a w)) in
+    let new : load s empty (count hasTop w) (count hasBottom w) ≤ max m (firstLoad s a w) =
+    le-trans (empty-load s a (count hasTop w) (count hasBottom w)) (le-max-right m (firstLoad s a w)) in
     simp (← max-assoc) (rw (only-occupied s w (max m (firstLoad s a w)) new, first-kept s a w m h))
 
 -- the columns of the letters u of a word v ++ u
@@ -161,4 +164,5 @@ pub density-load : (s : Sheet) (w : List Letter)
 unfolding density
 density-load s w l h k =
     let e : load s empty (count hasTop w) (count hasBottom w) ≤ 0 = rw (h, k, last-load s) (le-refl 0) in
-    ap (λ (c : ℕ). maximumTo c (columnDensity s (columnsOf w))) (sym l) ∙ columns-load s [] w h k ∙ (simp zero-max at (only-occupied s w 0 e))
+    ap (λ (c : ℕ). maximumTo c (columnDensity s (columnsOf w))) (sym l) ∙ columns-load s [] w h k
+    ∙ (simp zero-max at (only-occupied s w 0 e))

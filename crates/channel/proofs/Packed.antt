@@ -26,7 +26,8 @@ count-front f (suc k) a w = rw (count-front f k a w) (go (f a))
     go false = omega arith
 
 -- empty letters in front of a word, at the channel's right end, hold no column
-pub columns-padded : (f : Letter → Bool) → f empty ≡ false → (k : ℕ) (w : List Letter) → columnsWith f (replicate k empty ++ w) ≡ columnsWith f w
+pub columns-padded : (f : Letter → Bool) → f empty ≡ false → (k : ℕ) (w : List Letter)
+    → columnsWith f (replicate k empty ++ w) ≡ columnsWith f w
 columns-padded f e zero w = refl
 columns-padded f e (suc k) w = rw (e, append-nil, columns-padded f e k w)
 
@@ -70,7 +71,8 @@ unfolding packed
 length-packed [] = omega arith
 length-packed (a ∷ w) = go (hasTop a) (hasBottom a) (count hasTop w) (count hasBottom w) (length-packed w)
   where
-    go : (x y : Bool) (l m : ℕ) → length (packed w) ≤ l + m → length (cond (x || y) (a ∷ packed w) (packed w)) ≤ cond x (suc l) l + cond y (suc m) m
+    go : (x y : Bool) (l m : ℕ) → length (packed w) ≤ l + m
+        → length (cond (x || y) (a ∷ packed w) (packed w)) ≤ cond x (suc l) l + cond y (suc m) m
     go true true l m h = omega arith
     go true false l m h = omega arith
     go false true l m h = omega arith

@@ -95,9 +95,11 @@ record FreeSheet (s : Sheet) : Type 0 where
   bottom : Each (Free (s .columns)) true (s .bottom)
 
 -- a word's occupied letters fit it, where they have a pin for each terminal
-free-fitting : (s : Sheet) → s .columns ≤ 64 → FreeSheet s → (w : List Letter) → count hasTop w ≡ length (s .top) → count hasBottom w ≡ length (s .bottom)
+free-fitting : (s : Sheet) → s .columns ≤ 64 → FreeSheet s → (w : List Letter) → count hasTop w ≡ length (s .top)
+    → count hasBottom w ≡ length (s .bottom)
     → Fitting s (refit (s .columns) w)
-free-fitting s l f w x y = record { size = size; top = side hasTop refl (s .top) x (f .top); bottom = side hasBottom refl (s .bottom) y (f .bottom) }
+free-fitting s l f w x y =
+    record { size = size; top = side hasTop refl (s .top) x (f .top); bottom = side hasBottom refl (s .bottom) y (f .bottom) }
   where
     size : length (refit (s .columns) w) ≡ s .columns
     size = length-refit (s .columns) w (omega arith)
@@ -133,7 +135,8 @@ free-move s t l f n w g =
     let bottoms = pins-kept hasBottom w (s .bottom) (t .bottom) (g .bottom) (n .bottom) in
     (refit (t .columns) w, free-fitting t l f w tops bottoms, load-refit t (t .columns) w)
   where
-    pins-kept : (side : Letter → Bool) (w : List Letter) (ts us : List Terminal) → sideFits ts (columnsWith side w) ≡ true → nets ts ≡ nets us → count side w ≡ length us
+    pins-kept : (side : Letter → Bool) (w : List Letter) (ts us : List Terminal) → sideFits ts (columnsWith side w) ≡ true
+        → nets ts ≡ nets us → count side w ≡ length us
     pins-kept side w ts us e d = side-count side w ts e ∙ nets-length ts us d
 
 -- what lengthened says of the two sheets

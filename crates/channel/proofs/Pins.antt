@@ -76,7 +76,8 @@ somePin-same : (f : ℕ → Bool) (n : ℕ) (x : Bool) (b l : ℕ) (ts : List Te
 somePin-same f n x b l [] cs r h e = sym (and-false x)
 somePin-same f n x b l (t ∷ ts) [] r h e = absurd (omega arith)
 somePin-same f n x b l (t ∷ ts) (c ∷ cs) r h e =
-    rw (e c (r .0) (rises-bound c cs l (r .1)), somePin-same f n x c l ts cs (r .1) (omega arith) (λ d p. e d (omega arith))) (go x (eqb (t .net) n) (has n (nets ts)))
+    rw (e c (r .0) (rises-bound c cs l (r .1)), somePin-same f n x c l ts cs (r .1) (omega arith) (λ d p. e d (omega arith)))
+    (go x (eqb (t .net) n) (has n (nets ts)))
   where
     go : (x y z : Bool) → (y && x || x && z) ≡ (x && (y || z))
     go true y z = rw and-true
@@ -161,7 +162,8 @@ side-cut : (f : ℕ → Bool) (x y z : Bool) (v : List Letter) (a : Letter) (u :
 side-cut f x y z v a u test side ts e n =
     let r : Later side v (a ∷ u) = later side v (a ∷ u) in
     let xs : List ℕ = columnsWith side u in
-    let l : length ts ≤ length ((xs ++ cond (side a) (suc (length u) ∷ []) []) ++ r .columns) = rw (← r .split, length-columns) (omega arith) in
+    let l : length ts ≤ length ((xs ++ cond (side a) (suc (length u) ∷ []) []) ++ r .columns) =
+    rw (← r .split, length-columns) (omega arith) in
     let cut = somePin-cut f (length u) (length (v ++ a ∷ u)) x y z test (side a) ts xs (r .columns) (word-rises side u) (r .rises) l n in
     rw (r .split) (rw (length-columns side u) at cut)
 
@@ -180,7 +182,8 @@ or-left-comm true b c = sym (or-true b)
 or-left-comm false b c = refl
 
 -- of two lists in two parts each: a test of the first parts and one of the second parts
-pub any-swap {ℓ} : {A : Type ℓ} (f : A → Bool) (ws xs ys zs : List A) → any f ((ws ++ xs) ++ (ys ++ zs)) ≡ (any f (ws ++ ys) || any f (xs ++ zs))
+pub any-swap {ℓ} : {A : Type ℓ} (f : A → Bool) (ws xs ys zs : List A)
+    → any f ((ws ++ xs) ++ (ys ++ zs)) ≡ (any f (ws ++ ys) || any f (xs ++ zs))
 any-swap f ws xs ys zs = simp (any-append, or-assoc, or-left-comm)
 
 -- of two sides with three parts each: the two left parts, the two in the column, the two right parts

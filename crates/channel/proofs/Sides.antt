@@ -54,16 +54,20 @@ Each R isFirst [] = Unit {0}
 Each R isFirst (t ∷ ts) = R isFirst t × Each R false ts
 
 -- rising columns within the channel fit a side whose sets and ranges say nothing, since no two columns are more than 63 apart
-later-free : (l : ℕ) → l ≤ 64 → (ts : List Terminal) (b : ℕ) (cs : List ℕ) → Each (Free l) false ts → Rises b cs l → length cs ≡ length ts → laterFit ts b cs ≡ true
+later-free : (l : ℕ) → l ≤ 64 → (ts : List Terminal) (b : ℕ) (cs : List ℕ) → Each (Free l) false ts → Rises b cs l → length cs ≡ length ts
+    → laterFit ts b cs ≡ true
 later-free l h [] b [] f r e = refl
 later-free l h [] b (c ∷ cs) f r e = absurd (omega arith)
 later-free l h (t ∷ ts) b [] f r e = absurd (omega arith)
 later-free l h (t ∷ ts) b (c ∷ cs) f r e =
     let below : c ≤ l = rises-bound c cs l (r .1) in
-    later-test t ts b c cs (f .0 .allowed c (omega arith) below) (omega arith) (omega arith) (later-free l h ts c cs (f .1) (r .1) (omega arith))
+    later-test t ts b c cs (f .0 .allowed c (omega arith) below) (omega arith) (omega arith)
+    (later-free l h ts c cs (f .1) (r .1) (omega arith))
 
-pub side-free : (l : ℕ) → l ≤ 64 → (ts : List Terminal) (cs : List ℕ) → Each (Free l) true ts → Rises 0 cs l → length cs ≡ length ts → sideFits ts cs ≡ true
+pub side-free : (l : ℕ) → l ≤ 64 → (ts : List Terminal) (cs : List ℕ) → Each (Free l) true ts → Rises 0 cs l → length cs ≡ length ts
+    → sideFits ts cs ≡ true
 side-free l h [] [] f r e = refl
 side-free l h [] (c ∷ cs) f r e = absurd (omega arith)
 side-free l h (t ∷ ts) [] f r e = absurd (omega arith)
-side-free l h (t ∷ ts) (c ∷ cs) f r e = rw (f .0 .allowed c (r .0) (rises-bound c cs l (r .1))) (later-free l h ts c cs (f .1) (r .1) (omega arith))
+side-free l h (t ∷ ts) (c ∷ cs) f r e =
+    rw (f .0 .allowed c (r .0) (rises-bound c cs l (r .1))) (later-free l h ts c cs (f .1) (r .1) (omega arith))

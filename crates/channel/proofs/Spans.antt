@@ -9,7 +9,8 @@ use native.Mathlib.Nat.{zero-add, zero-max}
 use lib.Dec.{leb, ltb, eqb}
 use borrow.Author.Tests.{leb-true, leb-false, le-leb, lt-leb, ltb-true, ltb-false, lt-ltb, le-ltb, eqb-true, eqb-false, eq-eqb, ne-eqb}
 use Rattle.channel.specs.Sheet.{Terminal, Sheet}
-use Rattle.channel.specs.Density.{any, Pin, pins, crossing, crosses, distinct, netsOf, weight, weightOf, columnDensity, maximumTo, density}
+use Rattle.channel.specs.Density.{any, Pin, pins, crossing, crosses, distinct, netsOf, weight}
+use Rattle.channel.specs.Density.{weightOf, columnDensity, maximumTo, density}
 use Rattle.channel.specs.Cut.{nets}
 use Rattle.channel.specs.Spans.{netColumns, endFrom, leftmost, rightmost, Below, spans, sumLast}
 use Rattle.channel.proofs.Crossings.{crossed, crosses-columns, no-pin}
@@ -25,7 +26,8 @@ end-columns pick start n [] = refl
 end-columns pick start n (p ∷ ps) = go (eqb (p .net) n) (λ k. end-columns pick k n ps)
   where
     go : (b : Bool) → ((k : ℕ) → endFrom pick k n ps ≡ pickFrom pick k (netColumns n ps))
-        → endFrom pick (cond b (pick start (p .column)) start) n ps ≡ pickFrom pick start (cond b (p .column ∷ netColumns n ps) (netColumns n ps))
+        → endFrom pick (cond b (pick start (p .column)) start) n ps
+        ≡ pickFrom pick start (cond b (p .column ∷ netColumns n ps) (netColumns n ps))
     go true e = e (pick start (p .column))
     go false e = e start
 

@@ -34,7 +34,8 @@ crosses-as : (a : Letter) (tops bottoms : List ℕ) (i j : ℕ)
     → (hasBottom a ≡ true → 1 ≤ j)
     → (n : ℕ)
     → crossesAs a (cutOf tops bottoms i j) (placesOf tops bottoms n)
-    ≡ crossesCut n (leftOf (hasTop a) i tops ++ leftOf (hasBottom a) j bottoms) (hereOf (hasTop a) i tops ++ hereOf (hasBottom a) j bottoms) (rightOf i tops ++ rightOf j bottoms)
+    ≡ crossesCut n (leftOf (hasTop a) i tops ++ leftOf (hasBottom a) j bottoms) (hereOf (hasTop a) i tops ++ hereOf (hasBottom a) j bottoms)
+    (rightOf i tops ++ rightOf j bottoms)
 crosses-as a tops bottoms i j p q h k t b n =
     rw (
       side-left (hasTop a) n tops i t (omega arith),
@@ -74,7 +75,8 @@ module _ (pick : Loads → ℕ) (a : Letter) (c : Cut)
       let places : List ℕ = placesList tops bottoms ns in
       let f : ℕ → Bool = λ n. crossesAs a c (placesOf tops bottoms n) in
       more (loadsTo places c m) (placesAt places m)
-      ∙ ap₂ (λ (k : ℕ) (s : NetPlaces). k + cond (crossesAs a c s) 1 0) (picked tops bottoms ns m (omega arith)) (places-at tops bottoms ns m h)
+      ∙ ap₂ (λ (k : ℕ) (s : NetPlaces). k + cond (crossesAs a c s) 1 0) (picked tops bottoms ns m (omega arith))
+      (places-at tops bottoms ns m h)
       ∙ sym (ap (weightOf f) (take-suc ns m 0 h) ∙ weight-snoc f (take m ns) (getD ns m 0))
 
   picked-all : (tops bottoms ns : List ℕ)
@@ -82,13 +84,15 @@ module _ (pick : Loads → ℕ) (a : Letter) (c : Cut)
   unfolding loadsAt
   picked-all tops bottoms ns =
       let places : List ℕ = placesList tops bottoms ns in
-      let n : length places / 5 ≡ length ns = ap (λ (k : ℕ). k / 5) (length-places tops bottoms ns) ∙ mul-div-right (length ns) (omega arith) in
+      let n : length places / 5 ≡ length ns =
+      ap (λ (k : ℕ). k / 5) (length-places tops bottoms ns) ∙ mul-div-right (length ns) (omega arith) in
       ap (λ (k : ℕ). pick (loadsTo places c k)) n
       ∙ picked tops bottoms ns (length ns) (le-refl (length ns))
       ∙ ap (weightOf (λ (n : ℕ). crossesAs a c (placesOf tops bottoms n))) (take-length ns)
 
 -- so the three are small while few nets are counted
-pub loads-small : (places : List ℕ) (c : Cut) (m : ℕ) (l : Loads) → l ≡ loadsTo places c m → m < 255 → (l .top < 255) × (l .bottom < 255) × (l .both < 255)
+pub loads-small : (places : List ℕ) (c : Cut) (m : ℕ) (l : Loads) → l ≡ loadsTo places c m → m < 255
+    → (l .top < 255) × (l .bottom < 255) × (l .both < 255)
 unfolding withNet
 loads-small places c m l e h =
     rw e (
@@ -115,7 +119,8 @@ net-more c l s x y z p q r ex ey ez ep eq er = rw (ep, eq, er, ex, ey, ez, or-fa
 module _ (tops bottoms places : List ℕ) (listed : Listed tops bottoms places) (i j : ℕ) (h : i ≤ length tops) (k : j ≤ length bottoms) where
   load-at : (pick : Loads → ℕ) (a : Letter)
       → pick (record { top = 0; bottom = 0; both = 0 }) ≡ 0
-      → ((l : Loads) (s : NetPlaces) → pick (withNet (cutOf tops bottoms i j) l s) ≡ pick l + cond (crossesAs a (cutOf tops bottoms i j) s) 1 0)
+      → ((l : Loads) (s : NetPlaces) → pick (withNet (cutOf tops bottoms i j) l s)
+      ≡ pick l + cond (crossesAs a (cutOf tops bottoms i j) s) 1 0)
       → (hasTop a ≡ true → 1 ≤ i)
       → (hasBottom a ≡ true → 1 ≤ j)
       → pick (loadsAt places (cutOf tops bottoms i j)) ≡ loadOf tops bottoms a i j

@@ -15,12 +15,14 @@ use Rattle.load.specs.declared.counting.Stand.{Stand}
 use Rattle.load.specs.Counts.{standOf, leftTest, hereTest}
 
 -- of one side, with a pin in the column if h
-pub side-left : (h : Bool) (n : ℕ) (ns : List ℕ) (i : ℕ) → (h ≡ true → 1 ≤ i) → i ≤ 64 → leftTest h (endsOf ns n .first) i ≡ has n (leftOf h i ns)
+pub side-left : (h : Bool) (n : ℕ) (ns : List ℕ) (i : ℕ) → (h ≡ true → 1 ≤ i) → i ≤ 64
+    → leftTest h (endsOf ns n .first) i ≡ has n (leftOf h i ns)
 side-left true n ns zero some k = absurd (omega (arith, some refl))
 side-left true n ns (suc i) some k = leb·suc-suc (endsOf ns n .first) i ∙ first-left n ns i (omega arith)
 side-left false n ns i some k = first-left n ns i (omega arith)
 
-pub side-here : (h : Bool) (n : ℕ) (ns : List ℕ) (i : ℕ) → (h ≡ true → 1 ≤ i) → i ≤ length ns → hereTest h (standOf ns i) n ≡ has n (hereOf h i ns)
+pub side-here : (h : Bool) (n : ℕ) (ns : List ℕ) (i : ℕ) → (h ≡ true → 1 ≤ i) → i ≤ length ns
+    → hereTest h (standOf ns i) n ≡ has n (hereOf h i ns)
 side-here true n ns zero some k = absurd (omega (arith, some refl))
 side-here true n ns (suc i) some k = rw (drop-cons ns i 0, or-false)
 side-here false n ns i some k = refl

@@ -17,7 +17,8 @@ use Rattle.arrays.specs.Loads.{loadAt}
 unfoldable pub loadOf : List ℕ → List ℕ → Letter → ℕ → ℕ → ℕ
 loadOf tops bottoms a i j =
     weightOf
-    (λ (n : ℕ). crossesCut n (leftOf (hasTop a) i tops ++ leftOf (hasBottom a) j bottoms) (hereOf (hasTop a) i tops ++ hereOf (hasBottom a) j bottoms) (rightOf i tops ++ rightOf j bottoms))
+    (λ (n : ℕ). crossesCut n (leftOf (hasTop a) i tops ++ leftOf (hasBottom a) j bottoms)
+    (hereOf (hasTop a) i tops ++ hereOf (hasBottom a) j bottoms) (rightOf i tops ++ rightOf j bottoms))
     (distinct (tops ++ bottoms))
 
 -- the loads of the cut (i, j), of a column with a top pin only, a bottom pin only, and both.

@@ -18,7 +18,8 @@ use Rattle.soundness.specs.Read.Read.{sound, refused}
 use Rattle.soundness.proofs.Laws.{read-checked, read-refused}
 use Rattle.measure.specs.declared.Measured.{Measured}
 use Rattle.measure.specs.declared.Measured.the-variants.{Density, Sheet as Unsound, Count, Allowed, Distance}
-use Rattle.measure.specs.Answer.{sideAllowed, allAllowed, laterKept, sideKept, distancesKept, unless, listMeasured, sheetMeasured, measuredOf, numberOf, densityOf}
+use Rattle.measure.specs.Answer.{sideAllowed, allAllowed, laterKept, sideKept, distancesKept, unless}
+use Rattle.measure.specs.Answer.{listMeasured, sheetMeasured, measuredOf, numberOf, densityOf}
 use Rattle.measure.specs.Returned.{Long, Refuses, Returned}
 
 -- two pairs of tests, regrouped
@@ -73,7 +74,8 @@ assignment-tests s cs = by-length (eqb (length cs) (length (s .top) + length (s 
     by-length :
         (n : Bool) → eqb (length cs) (length (s .top) + length (s .bottom)) ≡ n
         → (sideFits (s .top) tops && sideFits (s .bottom) bottoms)
-        ≡ (n && ((sideAllowed (s .top) tops && sideAllowed (s .bottom) bottoms) && (sideKept (s .top) tops && sideKept (s .bottom) bottoms)))
+        ≡ (n && ((sideAllowed (s .top) tops && sideAllowed (s .bottom) bottoms)
+        && (sideKept (s .top) tops && sideKept (s .bottom) bottoms)))
     by-length true e =
         let size : length cs ≡ length (s .top) + length (s .bottom) = eqb-true _ _ e in
         let t : length tops ≡ length (s .top) = length-take-le (length (s .top)) cs (omega arith) in

@@ -21,7 +21,8 @@ places-more s xs m =
     let more : (r : ℕ) → 5 * suc m + r ≡ suc (suc (suc (suc (suc (5 * m + r))))) = λ r. omega arith in
     rw (more 1, more 2, more 3, more 4, five)
 
-pub places-at : (tops bottoms ns : List ℕ) (m : ℕ) → m < length ns → placesAt (placesList tops bottoms ns) m ≡ placesOf tops bottoms (getD ns m 0)
+pub places-at : (tops bottoms ns : List ℕ) (m : ℕ) → m < length ns
+    → placesAt (placesList tops bottoms ns) m ≡ placesOf tops bottoms (getD ns m 0)
 places-at tops bottoms (n ∷ ns) zero h = refl
 places-at tops bottoms (n ∷ ns) (suc m) h =
     places-more (placesOf tops bottoms n) (placesList tops bottoms ns) m ∙ places-at tops bottoms ns m (omega arith)
@@ -32,7 +33,8 @@ length-places tops bottoms (n ∷ ns) = omega (arith, length-places tops bottoms
 
 -- five stores from index i on
 pub five-stored : (xs : List ℕ) (i a b c d e : ℕ) → i + 5 ≤ length xs
-    → set (set (set (set (set xs i a) (i + 1) b) (i + 2) c) (i + 3) d) (i + 4) e ≡ take i xs ++ ((a ∷ b ∷ c ∷ d ∷ e ∷ []) ++ drop (i + 5) xs)
+    → set (set (set (set (set xs i a) (i + 1) b) (i + 2) c) (i + 3) d) (i + 4) e
+    ≡ take i xs ++ ((a ∷ b ∷ c ∷ d ∷ e ∷ []) ++ drop (i + 5) xs)
 five-stored xs i a b c d e h =
     let vs : List ℕ = a ∷ b ∷ c ∷ d ∷ e ∷ [] in
     let stores : set (set (set (set (set xs i a) (i + 1) b) (i + 2) c) (i + 3) d) (i + 4) e ≡ sets xs i vs = simp towards-suc in
@@ -49,7 +51,8 @@ distinct-at ns m h = rw (add-one, drop-cons ns m 0 h) (go (any (eqb (getD ns m 0
     go false = refl
 
 -- the places of two lists of nets
-places-append : (tops bottoms ns ms : List ℕ) → placesList tops bottoms (ns ++ ms) ≡ placesList tops bottoms ns ++ placesList tops bottoms ms
+places-append : (tops bottoms ns ms : List ℕ)
+    → placesList tops bottoms (ns ++ ms) ≡ placesList tops bottoms ns ++ placesList tops bottoms ms
 places-append tops bottoms [] ms = refl
 places-append tops bottoms (n ∷ ns) ms = rw (places-append tops bottoms ns ms)
 

@@ -38,7 +38,8 @@ reach-held s d i j u v r =
 pub reach-mono : (s : Sheet) (d e : ℕ) → d ≤ e → (i j u v : ℕ) → reach s d i j u v ≡ true → reach s e i j u v ≡ true
 reach-mono s d e h i j u v r =
     reach-induction s d (λ i j u v. reach s e i j u v ≡ true) (reach-none s e 0 0)
-    (λ c a k l t b o p. step-reach s e c a k l t b (record { top = o .top; bottom = o .bottom; within = λ q. le-trans (o .within q) h; rest = p }))
+    (λ c a k l t b o p. step-reach s e c a k l t b
+    (record { top = o .top; bottom = o .bottom; within = λ q. le-trans (o .within q) h; rest = p }))
     (u + v) i j u v (omega arith) (omega arith) r
 
 module _ (s : Sheet) (d : ℕ) where

@@ -155,7 +155,8 @@ done-more s d c i j x y u v a w p q o m n r =
     let tops : SideDone (s .top) hasTop i x (a ∷ w) =
     side-more (s .top) hasTop c i (o .k) (o .t) x a w (o .tops) p (o .step .top) (rw (o .lastTop) at m) (r .size) (r .top) in
     let bottoms : SideDone (s .bottom) hasBottom j y (a ∷ w) =
-    side-more (s .bottom) hasBottom c j (o .l) (o .b) y a w (o .bottoms) q (o .step .bottom) (rw (o .lastBottom) at n) (r .size) (r .bottom) in
+    side-more (s .bottom) hasBottom c j (o .l) (o .b) y a w (o .bottoms) q (o .step .bottom)
+    (rw (o .lastBottom) at n) (r .size) (r .bottom) in
     record {
       size = ap suc (r .size);
       top = tops;

@@ -137,7 +137,12 @@ module _ (s : Sheet) where
   unfolding netsOf
   nets-length =
       let ts : List Terminal = s .top ++ s .bottom in
-      omega (arith, distinct-length (map (λ (t : Terminal). t .net) ts), length-map ts (λ (t : Terminal). t .net), length-append (s .top) (s .bottom))
+      omega (
+        arith,
+        distinct-length (map (λ (t : Terminal). t .net) ts),
+        length-map ts (λ (t : Terminal). t .net),
+        length-append (s .top) (s .bottom),
+      )
 
   -- a column's load, and so a word's, is at most the number of nets
   load-nets : (a : Letter) (i j : ℕ) → load s a i j ≤ length (netsOf s)

@@ -14,7 +14,8 @@ use Rattle.channel.specs.Word.{Letter, hasTop, hasBottom}
 use Rattle.channel.specs.Word.Letter.{empty, top, bottom, both}
 use Rattle.channel.specs.Cut.{load, occupied}
 use Rattle.reach.specs.Reach.{stands, reach}
-use Rattle.reach.proofs.Reaches.{both-hold, reach-none, reach-top, reach-bottom, reach-both, reach-no-top, reach-no-bottom, reach-only-tops, reach-only-bottoms}
+use Rattle.reach.proofs.Reaches.{both-hold, reach-none, reach-top, reach-bottom, reach-both}
+use Rattle.reach.proofs.Reaches.{reach-no-top, reach-no-bottom, reach-only-tops, reach-only-bottoms}
 
 -- how many pins a side has, where it has k and, if h, one more
 abbrev pub more : Bool → ℕ → ℕ
@@ -57,7 +58,8 @@ module _ (s : Sheet) (d : ℕ) where
       rw (reach-both s d k l (suc c))
       (both-hold _ _ (le-leb _ d (r .within refl))
       (anyBelow-from (suc c) (λ (t : ℕ). anyBelow (suc c) (pair t)) t (omega arith)
-      (anyBelow-from (suc c) (pair t) b (omega arith) (both-hold _ _ (r .top .fits refl) (both-hold _ _ (r .bottom .fits refl) (r .rest))))))
+      (anyBelow-from (suc c) (pair t) b (omega arith)
+      (both-hold _ _ (r .top .fits refl) (both-hold _ _ (r .bottom .fits refl) (r .rest))))))
 
 -- a side's last pin stands in column c + 1 if h, and else in one of the columns up to c
 abbrev pub At : Bool → ℕ → ℕ → Type 0

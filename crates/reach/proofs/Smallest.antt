@@ -110,7 +110,8 @@ module _ (s : Sheet) (d : ℕ) where
         atBottom = o .step .bottom .below;
         reached = rw (before-more (hasTop a) i (o .k) (o .tops), before-more (hasBottom a) j (o .l) (o .bottoms)) (o .step .rest);
         nextTop = next-rest (s .top) (hasTop a) c i (o .k) (o .t) x (o .tops) (o .step .top) (rw (o .lastTop) at (r .nextTop));
-        nextBottom = next-rest (s .bottom) (hasBottom a) c j (o .l) (o .b) y (o .bottoms) (o .step .bottom) (rw (o .lastBottom) at (r .nextBottom));
+        nextBottom =
+            next-rest (s .bottom) (hasBottom a) c j (o .l) (o .b) y (o .bottoms) (o .step .bottom) (rw (o .lastBottom) at (r .nextBottom));
       }
 
   -- where the pins have places, some letter may stand in the column furthest right
@@ -227,4 +228,5 @@ module _ (s : Sheet) (d : ℕ) where
       noLater-step (choice s d c i j x y) b
       (λ a. walkWordFrom s d c (before (hasTop a) i) (before (hasBottom a) j) (lastIn (hasTop a) c x) (lastIn (hasBottom a) c y)) w
       (smallest-holds (letterFits s d c i j x y) b (done-fits c i j x y b w r) .1)
-      (walk-first c (before (hasTop b) i) (before (hasBottom b) j) (lastIn (hasTop b) c x) (lastIn (hasBottom b) c y) w (done-rest s d c i j x y b w r))
+      (walk-first c (before (hasTop b) i) (before (hasBottom b) j) (lastIn (hasTop b) c x) (lastIn (hasBottom b) c y) w
+      (done-rest s d c i j x y b w r))

@@ -1,4 +1,5 @@
--- The whole channel: a word of all pins within a bound is a word that fits with no load above it; the walk writes one, and the first of them.
+-- The whole channel: a word of all pins within a bound is a word that fits with no load above it; the walk writes
+-- one, and the first of them.
 -- Assumes nothing.
 use Prim.Native.Nat.{ℕ, _+_, _≤_}
 use native.Mathlib.Nat.{le-refl}
@@ -29,13 +30,15 @@ next-none : (ts : List Terminal) (u : ℕ) → next ts (length ts) u 0 ≡ true
 next-none ts u = rw (eq-eqb (length ts) (length ts) refl)
 
 -- one side of a word that fits
-side-whole : (ts : List Terminal) (f : Letter → Bool) (w : List Letter) → sideFits ts (columnsWith f w) ≡ true → SideDone ts f (length ts) 0 w
+side-whole : (ts : List Terminal) (f : Letter → Bool) (w : List Letter) → sideFits ts (columnsWith f w) ≡ true
+    → SideDone ts f (length ts) 0 w
 side-whole ts f w e =
     let pins : count f w ≡ length ts = side-count f w ts e in
     record { pins = pins; room = le-refl (length ts); stand = sym (side-standing ts f w pins) ∙ e; joined = next-none ts (lastOf f w) }
 
 -- and back
-side-fits : (ts : List Terminal) (f : Letter → Bool) (w : List Letter) → SideDone ts f (length ts) 0 w → sideFits ts (columnsWith f w) ≡ true
+side-fits : (ts : List Terminal) (f : Letter → Bool) (w : List Letter) → SideDone ts f (length ts) 0 w
+    → sideFits ts (columnsWith f w) ≡ true
 side-fits ts f w r = side-standing ts f w (r .pins) ∙ r .stand
 
 -- a word that places all pins of a sheet in its columns, with no load above d
@@ -61,7 +64,8 @@ module _ (s : Sheet) (d : ℕ) where
   -- where there is one, all pins can be placed
   pub whole-feasible : (w : List Letter) → Whole s d w → feasible s d ≡ true
   whole-feasible w r =
-      feasible-from s d (lastOf hasTop w) (lastOf hasBottom w) (rw (r .size) at (lastOf-below hasTop w)) (rw (r .size) at (lastOf-below hasBottom w))
+      feasible-from s d (lastOf hasTop w) (lastOf hasBottom w) (rw (r .size) at (lastOf-below hasTop w))
+      (rw (r .size) at (lastOf-below hasBottom w))
       (rw (r .top .pins, r .bottom .pins) at (standing-reach s d w (r .top .stand) (r .bottom .stand) (r .bound)))
 
   -- where all pins can be placed, the walk writes one
@@ -70,7 +74,15 @@ module _ (s : Sheet) (d : ℕ) where
   walk-whole f =
       let (u, v, hu, hv, r) = feasible-some s d f in
       walk-done s d (s .columns) (length (s .top)) (length (s .bottom)) 0 0 (le-refl _) (le-refl _)
-      (record { u = u; v = v; atTop = hu; atBottom = hv; reached = r; nextTop = next-none (s .top) u; nextBottom = next-none (s .bottom) v })
+      (record {
+        u = u;
+        v = v;
+        atTop = hu;
+        atBottom = hv;
+        reached = r;
+        nextTop = next-none (s .top) u;
+        nextBottom = next-none (s .bottom) v;
+      })
 
   -- and no other comes before it
   pub walk-no-later : (w : List Letter) → Whole s d w → noLater (walkWord s d) w ≡ true
@@ -86,5 +98,9 @@ module _ (s : Sheet) (d : ℕ) where
       × (length (columnsOf (walkWord s d)) ≡ length (s .top) + length (s .bottom))
   unfolding columnsOf
   walk-pins f =
-      let r : Whole s d (walkWord s d) = walk-whole f in
-      (r .size, r .top .pins, r .bottom .pins, rw (length-append, length-columns hasTop, length-columns hasBottom, r .top .pins, r .bottom .pins))
+      let r : Whole s d (walkWord s d) = walk-whole f in (
+        r .size,
+        r .top .pins,
+        r .bottom .pins,
+        rw (length-append, length-columns hasTop, length-columns hasBottom, r .top .pins, r .bottom .pins),
+      )

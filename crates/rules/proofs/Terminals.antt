@@ -82,7 +82,8 @@ allowed-shift set i x h =
     bit-shr set (i - 1) x ∙ ap (λ (k : ℕ). eqb (set / 2 ^ k % 2) 1) (omega arith) ∙ sym (allows-at set (x + i) (omega arith))
 
 -- the record of a place's terminal
-module _ (part : List ℕ) (place : ℕ) (r : Record) (p : 1 ≤ place) (answer : r ≡ recordOf (getD (terminalsIn part) (place - 1) noTerminal)) where
+module _ (part : List ℕ) (place : ℕ) (r : Record) (p : 1 ≤ place)
+    (answer : r ≡ recordOf (getD (terminalsIn part) (place - 1) noTerminal)) where
   here : recordOf (terminalNumber (terminalsIn part) place) ≡ r
   here = ap (λ (k : ℕ). recordOf (getD (terminalsIn part) k noTerminal)) (omega arith) ∙ sym answer
 

@@ -23,7 +23,8 @@ use Rattle.search.specs.declared.Searched.{Searched}
 use Rattle.search.specs.declared.Searched.the-variants as searched
 use Rattle.pass.specs.declared.Outcome.{Outcome}
 use Rattle.pass.specs.declared.Outcome.the-variants as outcome
-use Rattle.search.specs.Answer.{pinsNeeded, cellsNeeded, answerAs, answerIn, answerIf, searchedOf, columnsIf, columnsAfter, workIf, workAfter, Searches}
+use Rattle.search.specs.Answer.{pinsNeeded, cellsNeeded, answerAs, answerIn, answerIf, searchedOf}
+use Rattle.search.specs.Answer.{columnsIf, columnsAfter, workIf, workAfter, Searches}
 use Rattle.solve.specs.Buffers.{withColumns, cleared}
 use Rattle.solve.specs.Solved.{Asked, outcomeOf, Solved}
 
@@ -84,7 +85,8 @@ module _ (b columns work : List ℕ) where
           ap₂ (λ (ts bs : List Terminal). record { columns = n .columns; top = ts; bottom = bs })
           (ap terminalsIn first ∙ laws .top)
           (ap terminalsIn second ∙ laws .bottom)
-          ∙ ap (λ (k : ℕ). record { columns = k; top = sheetOf b .top; bottom = sheetOf b .bottom }) (ap (λ (k : Shape). k .columns) (laws .shape))
+          ∙ ap (λ (k : ℕ). record { columns = k; top = sheetOf b .top; bottom = sheetOf b .bottom })
+          (ap (λ (k : Shape). k .columns) (laws .shape))
 
       pub solve-asked :
           n .pins ≤ length columns → n .cells ≤ length work → Asked tops bottoms n (length columns) (length work)

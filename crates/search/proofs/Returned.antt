@@ -16,7 +16,8 @@ use Rattle.soundness.specs.Read.Read.{sound, refused}
 use Rattle.soundness.proofs.Laws.{read-sound, read-checked, read-refused}
 use Rattle.search.specs.declared.Searched.{Searched}
 use Rattle.search.specs.declared.Searched.the-variants as searched
-use Rattle.search.specs.Answer.{pinsNeeded, cellsNeeded, answerAs, answerIn, searchedOf, columnsIf, columnsAfter, workIf, workAfter, numberOf, densityOf, Searches}
+use Rattle.search.specs.Answer.{pinsNeeded, cellsNeeded, answerAs, answerIn, searchedOf, columnsIf}
+use Rattle.search.specs.Answer.{columnsAfter, workIf, workAfter, numberOf, densityOf, Searches}
 use Rattle.search.specs.Returned.{Refuses, LongEnough, Decides, Returned}
 use Rattle.search.proofs.Found.{answers-best, is-best, gives, columns-behind}
 
@@ -99,7 +100,10 @@ module _ (bytes columns work columns' work' : List ℕ) (r : Searched) (searches
         let q = answers-best searches long ∙ ap answerAs e in
         let given = gives searches long e in
         record {
-          none = (λ eleven. absurd (omega (arith, given .returned)), λ nothing. absurd (true≢false (sym (is-best searches long e .assignment) ∙ nothing cs)));
+          none = (
+            λ eleven. absurd (omega (arith, given .returned)),
+            λ nothing. absurd (true≢false (sym (is-best searches long e .assignment) ∙ nothing cs)),
+          );
           refuses = λ eleven. absurd (omega (arith, given .returned));
           gives = λ other. (given, columns-behind searches long e);
           cells = rw same-sheet (cells-after a q);

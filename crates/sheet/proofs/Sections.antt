@@ -24,7 +24,8 @@ use Rattle.soundness.specs.Read.Read.{sound, refused}
 use Rattle.sheet.specs.declared.Entry.the-variants.{Terminal as Found, Nothing}
 use Rattle.sheet.specs.declared.Layout.{Layout}
 use Rattle.sheet.specs.declared.Opened.the-variants.{Sound as Laid, Refused as Unsound}
-use Rattle.sheet.specs.Parts.{noShape, shape, shapeOf, layoutOf, openedAs, openedOf, sectionOf, sectionAt, nth, entryOf, entryIn, sideOf, entryAs, entryAt}
+use Rattle.sheet.specs.Parts.{noShape, shape, shapeOf, layoutOf, openedAs, openedOf, sectionOf}
+use Rattle.sheet.specs.Parts.{sectionAt, nth, entryOf, entryIn, sideOf, entryAs, entryAt}
 use Rattle.soundness.proofs.Checks.{Formed, whole}
 use Rattle.soundness.proofs.Laws.{sound-read, refused-read}
 
@@ -44,7 +45,8 @@ entry-at ts (suc k) h = ap (nth ts) (omega arith)
 
 -- what a place of any bytes gives
 module _ (part : List ℕ) (place : ℕ) (some : place ≡ 0 → ⊥) where
-  pub entry-found : place - 1 < length (terminalsIn part) → Found (recordOf (getD (terminalsIn part) (place - 1) noTerminal)) ≡ entryIn part place
+  pub entry-found : place - 1 < length (terminalsIn part)
+      → Found (recordOf (getD (terminalsIn part) (place - 1) noTerminal)) ≡ entryIn part place
   unfolding entryIn
   entry-found h = nth-found (terminalsIn part) (place - 1) h ∙ sym (entry-at (terminalsIn part) place some)
 
@@ -137,7 +139,8 @@ section-records b side = by-check (checkOf b) refl
         let part = ofSide (layoutOf b .top) (layoutOf b .bottom) side in
         rw (← sound-section b e side part refl, sound-read b e) (side-terminals b side)
 
-pub section-terminals : (b : List ℕ) (s : Sheet) → read b ≡ sound s → (side : Side) → terminalsIn (sectionOf b side) ≡ terminals s (sideOf side)
+pub section-terminals : (b : List ℕ) (s : Sheet) → read b ≡ sound s → (side : Side)
+    → terminalsIn (sectionOf b side) ≡ terminals s (sideOf side)
 unfolding sideAs
 section-terminals b s h side = section-records b side ∙ ap (sideAs side) h
 

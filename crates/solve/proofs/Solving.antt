@@ -211,7 +211,12 @@ module _ (tops bottoms : List ℕ) (n : Shape) (columns work : List ℕ)
         = rw planned
         (sym (mul-assoc (n .top + 1) (n .bottom + 1) ((n .columns + 1) * (n .columns + 1)))
         ∙ sym (cell-count tops bottoms n (length columns) (length work) asked)) in
-        record { outcome = o; written = w; kept = placed .table .kept; behind = subst (λ (k : ℕ). drop k work' ≡ drop k work) end (placed .table .behind) }
+        record {
+          outcome = o;
+          written = w;
+          kept = placed .table .kept;
+          behind = subst (λ (k : ℕ). drop k work' ≡ drop k work) end (placed .table .behind);
+        }
 
 -- cleared cells keep their number
 pub cleared-length : (n : ℕ) (old new : List ℕ) → n ≤ length old → new ≡ cleared n old → length new ≡ length old

@@ -21,7 +21,8 @@ use Rattle.format.specs.Format.{recordSize, trailerSize, trailerOf, partOf, has
 use Rattle.format.specs.Parts.{bytesOf, terminalsIn}
 use Rattle.soundness.specs.declared.Checked.{Checked}
 use Rattle.soundness.specs.declared.Checked.the-variants.{Sound, Refused}
-use Rattle.soundness.specs.Check.{refuse, _orElse_, follows, laidOut, trailerCheck, formOf, terminalCheck, sideCheck, terminalsOf, checkOf}
+use Rattle.soundness.specs.Check.{refuse, _orElse_, follows, laidOut, trailerCheck, formOf}
+use Rattle.soundness.specs.Check.{terminalCheck, sideCheck, terminalsOf, checkOf}
 
 -- the check of the terminals that are left is that of the first, then of those behind it
 pub side-more :
@@ -46,7 +47,8 @@ or-false false b h = (refl, h)
 
 -- of two sections that fill a file before its trailer, the one that follows and the one that starts it end in the file
 module _ (first second : Part) (len : ℕ) (size : len ≡ recordSize * (first .count + second .count) + trailerSize) where
-  follows-room : follows first second ≡ true → (first .at + recordSize * first .count ≤ len) × (second .at + recordSize * second .count ≤ len)
+  follows-room : follows first second ≡ true
+      → (first .at + recordSize * first .count ≤ len) × (second .at + recordSize * second .count ≤ len)
   follows-room h =
       let (z, e) = and-eq-true-iff (eqb (first .at) 0) (eqb (second .at) (recordSize * first .count)) .0 h in
       let z' : first .at ≡ 0 = eqb-true (first .at) 0 z in
@@ -58,11 +60,14 @@ laid-out-room :
     → (top .at + recordSize * top .count ≤ len) × (bottom .at + recordSize * bottom .count ≤ len)
 unfolding laidOut
 laid-out-room top bottom len h =
-    let (n, either) = and-eq-true-iff (eqb len (recordSize * (top .count + bottom .count) + trailerSize)) (follows top bottom || follows bottom top) .0 h in
+    let (n, either) =
+    and-eq-true-iff (eqb len (recordSize * (top .count + bottom .count) + trailerSize))
+    (follows top bottom || follows bottom top) .0 h in
     by-order (eqb-true len (recordSize * (top .count + bottom .count) + trailerSize) n) (follows top bottom) refl either
   where
     by-order :
-        len ≡ recordSize * (top .count + bottom .count) + trailerSize → (t : Bool) → follows top bottom ≡ t → (t || follows bottom top) ≡ true
+        len ≡ recordSize * (top .count + bottom .count) + trailerSize → (t : Bool) → follows top bottom ≡ t
+        → (t || follows bottom top) ≡ true
         → (top .at + recordSize * top .count ≤ len) × (bottom .at + recordSize * bottom .count ≤ len)
     by-order size true e either = follows-room top bottom len size e
     by-order size false e either =

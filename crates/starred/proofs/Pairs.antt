@@ -58,7 +58,8 @@ second-looser : (n : ℕ) → Looser false (second n 2) (second n 3)
 second-looser n = record { net = refl; allowed = wider; distances = (omega arith, omega arith) }
 
 first-free : (n : ℕ) → BothFree 4 5 true (first n 4) (first n 5)
-first-free n = record { net = refl; first = record { allowed = full-4; distances = tt }; second = record { allowed = full-5; distances = tt } }
+first-free n =
+    record { net = refl; first = record { allowed = full-4; distances = tt }; second = record { allowed = full-5; distances = tt } }
 
 second-free : (n : ℕ) → BothFree 4 5 false (second n 4) (second n 5)
 second-free n =

@@ -16,7 +16,8 @@ use Rattle.starred.specs.Table.{Starred}
 
 pub starred : Starred
 unfolding fits topColumns bottomColumns assignment? crosses netsOf columnDensity density word columnsOf words bestOf best
-    little terminalAt terminalsFrom trailerOf hasMark bytesOf terminalsIn laidOut trailerCheck formOf terminalCheck checkOf sheetOf read shapeOf
+    little terminalAt terminalsFrom trailerOf hasMark bytesOf terminalsIn laidOut trailerCheck formOf terminalCheck checkOf
+    sheetOf read shapeOf
     allAllowed distancesKept listMeasured sheetMeasured measuredOf answerIn searchedOf columnsAfter
 starred =
     record {

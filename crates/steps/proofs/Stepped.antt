@@ -62,7 +62,8 @@ stepped-open w by low a n h there none all = by-test (leb (low + a) n) refl
     by-test : (b : Bool) → leb (low + a) n ≡ b → b ≡ anyBelow (suc n) step
     by-test true e =
         let le = leb-true (low + a) n e in
-        sym (anyBelow-from (suc n) step low (omega arith) (rw (all (n - low) (omega arith), le-leb a (n - low) (omega arith)) (there (omega arith))))
+        sym (anyBelow-from (suc n) step low (omega arith)
+        (rw (all (n - low) (omega arith), le-leb a (n - low) (omega arith)) (there (omega arith))))
     by-test false e = sym (anyBelow-none (suc n) step (λ y l. short y l (leb a (n - y)) refl))
       where
         short : (y : ℕ) → y < suc n → (b : Bool) → leb a (n - y) ≡ b → step y ≡ false

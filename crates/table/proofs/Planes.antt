@@ -73,7 +73,8 @@ module _ (rules loads : List ℕ) (bound i j x y : ℕ) where
       && (leb (loadAt loads i j 2) bound && (bitOf (allowedAt rules 0 i) x && (bitOf (allowedAt rules 1 j) y && t))))
       (anyBelow-cong (suc y) _ _
       (λ m l. ap (λ (t : Bool). bitOf (rangeAt rules 1 j) (y - m) && t)
-      (anyBelow-cong (suc x) _ _ (λ n k. ap (λ (t : Bool). bitOf (rangeAt rules 0 i) (x - n) && t) (h p q n m (omega arith) (omega arith))))))
+      (anyBelow-cong (suc x) _ _
+      (λ n k. ap (λ (t : Bool). bitOf (rangeAt rules 0 i) (x - n) && t) (h p q n m (omega arith) (omega arith))))))
 
   entry-cong :
       (a a' b b' d d' : ℕ → ℕ → Bool) → (0 < i → (n : ℕ) → n ≤ x → a n y ≡ a' n y) → (0 < j → (n : ℕ) → n ≤ y → b x n ≡ b' x n)
@@ -231,7 +232,8 @@ row-filled rules loads bound g i end old new f =
       cells = λ n m x y earlier hm hx hy. f .cells n m x y (by-row n m earlier hm (eqb n i) refl) hm hx hy;
     }
   where
-    by-row : (n m : ℕ) → (n < i + 1) ⊎ ((n ≡ i + 1) × (m < 0)) → m < g .across → (t : Bool) → eqb n i ≡ t → (n < i) ⊎ ((n ≡ i) × (m < g .across))
+    by-row : (n m : ℕ) → (n < i + 1) ⊎ ((n ≡ i + 1) × (m < 0)) → m < g .across → (t : Bool) → eqb n i ≡ t
+        → (n < i) ⊎ ((n ≡ i) × (m < g .across))
     by-row n m (inl l) hm true e = inr (eqb-true n i e, hm)
     by-row n m (inl l) hm false e = inl (omega (arith, eqb-false n i e))
     by-row n m (inr (e, l)) hm t q = absurd (omega arith)

@@ -16,7 +16,8 @@ use Rattle.bits.proofs.Laws.{word-cong}
 use Rattle.entry.specs.declared.Grid.{Grid}
 use Rattle.table.specs.Planes.{heldAt, meeting}
 use Rattle.walk.specs.declared.Mark.{Mark}
-use Rattle.walk.specs.Walk.{stepsTo, standsAt, numberFits, lefts, rowFits, rowMeets, someLeft, someHere, emptyMeets, topMeets, emptyFits, topFits, bottomFits, choiceIn, hasTopPin, hasBottomPin, behind, written, walkColumns}
+use Rattle.walk.specs.Walk.{stepsTo, standsAt, numberFits, lefts, rowFits, rowMeets, someLeft, someHere, emptyMeets, topMeets}
+use Rattle.walk.specs.Walk.{emptyFits, topFits, bottomFits, choiceIn, hasTopPin, hasBottomPin, behind, written, walkColumns}
 use Rattle.walk.specs.Walking.{Walks}
 
 -- a letter with a pin has one to place
@@ -113,7 +114,8 @@ module _ (work rules : List ℕ) (g : Grid) (p : ℕ) (m : Mark) (w : ℕ) (f : 
   pub left-same : emptyMeets work rules g p m w ≡ someLeft work rules g p m f
   left-same =
       ap (λ (t : Bool). leb (m .i) (m .c - 1) && t)
-      (anyBelow-cong (suc (min (m .c - 1 - m .i) (g .rows - 1))) (rowMeets work rules g p m (bitOf w)) (rowMeets work rules g p m f) (λ x l. row-same x))
+      (anyBelow-cong (suc (min (m .c - 1 - m .i) (g .rows - 1))) (rowMeets work rules g p m (bitOf w)) (rowMeets work rules g p m f)
+      (λ x l. row-same x))
 
   pub here-same : topMeets work rules g p m w ≡ someHere work rules g p m f
   here-same =

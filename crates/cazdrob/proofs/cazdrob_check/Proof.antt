@@ -19,4 +19,5 @@ returns-2 c =
 pub cazdrob-check-spec : {M : Type 1} → statement M
 cazdrob-check-spec =
     tie.close
-    (tie.spec (λ c κs. search needs) (λ c. search needs) (λ c. search needs) (λ c κs. search needs) (λ c κs. search needs) returns returns-2)
+    (tie.spec (λ c κs. search needs) (λ c. search needs) (λ c. search needs) (λ c κs. search needs)
+    (λ c κs. search needs) returns returns-2)

@@ -17,4 +17,5 @@ returns c =
     }
 
 pub cazdrob-measure-spec : {M : Type 1} → statement M
-cazdrob-measure-spec = tie.close (tie.spec (λ c κs. search needs) (λ c κs. search needs) (λ c κs. search needs) (λ c κs. search needs) returns)
+cazdrob-measure-spec =
+    tie.close (tie.spec (λ c κs. search needs) (λ c κs. search needs) (λ c κs. search needs) (λ c κs. search needs) returns)

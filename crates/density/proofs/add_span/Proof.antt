@@ -23,7 +23,11 @@ add-counts : tie.Need-add-counts Inv-loop μ-loop
 add-counts c =
     let a = c .before .before .before .args in
     let l = c .before .before .loop in
-    omega (arith, added-next (a .from) (l .c) (a .counts .now) (l .counts) (l .inv .3) (l .inv .0), c .before .before .before .pre .2 (l .c))
+    omega (
+      arith,
+      added-next (a .from) (l .c) (a .counts .now) (l .counts) (l .inv .3) (l .inv .0),
+      c .before .before .before .pre .2 (l .c),
+    )
 
 loop-again : tie.Need-loop-again Inv-loop μ-loop
 loop-again c =

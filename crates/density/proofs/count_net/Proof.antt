@@ -10,7 +10,8 @@ returns : tie.Need-returns
 returns c =
     let a = c .before .before .before .before .before .before .before .before .before .before .before .before .args in
     let s = c .before .before .before .before .before .before .before .before .span-of in
-    counted (pinsOf (a .nets .now) (a .columns .now)) (a .net) (s .result) (s .ensures) (a .counts .now) (c .before .before .add-span .last .0)
+    counted (pinsOf (a .nets .now) (a .columns .now)) (a .net) (s .result) (s .ensures) (a .counts .now)
+    (c .before .before .add-span .last .0)
     (c .before .before .before .before .before .before .if1 .taken)
     (c .before .before .add-span .ensures)
 

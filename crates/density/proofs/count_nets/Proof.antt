@@ -20,8 +20,10 @@ abbrev μ-loop : tie.MeasureT-loop
 
 loop-holds : tie.Need-loop-holds Inv-loop μ-loop
 loop-holds c =
-    let s = c .before .before .before in
-    (ap length (s .pre .2) ∙ length-replicate {A = ℕ} 256 0, counted-none (s .args .nets .now) (s .args .columns .now) 256 (s .args .counts .now) (s .pre .2))
+    let s = c .before .before .before in (
+      ap length (s .pre .2) ∙ length-replicate {A = ℕ} 256 0,
+      counted-none (s .args .nets .now) (s .args .columns .now) 256 (s .args .counts .now) (s .pre .2),
+    )
 
 count-net-requires : tie.Need-count-net-requires Inv-loop μ-loop
 count-net-requires c κs =
@@ -38,12 +40,14 @@ loop-again c =
     ⊎-elim
     (λ w. rw (w .6) (
       w .3 .kept .1 .1 .1 .0 ∙ l .inv .0,
-      counted-last (a .nets .now) (a .columns .now) (l .i) (l .counts) (l .inv .1) inside (sym (o .ensures) ∙ not-true (o .result) (w .0 .taken))
+      counted-last (a .nets .now) (a .columns .now) (l .i) (l .counts) (l .inv .1) inside
+          (sym (o .ensures) ∙ not-true (o .result) (w .0 .taken))
           (w .3 .last .1 .1 .1 .0) (w .3 .ensures),
     ))
     (λ w. rw (w .1) (
       l .inv .0,
-      counted-later (a .nets .now) (a .columns .now) (l .i) (l .counts) (l .inv .1) inside (sym (o .ensures) ∙ not-false (o .result) (w .0 .left)),
+      counted-later (a .nets .now) (a .columns .now) (l .i) (l .counts) (l .inv .1) inside
+          (sym (o .ensures) ∙ not-false (o .result) (w .0 .left)),
     ))
     (c .if1 .came)
 

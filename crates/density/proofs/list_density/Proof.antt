@@ -24,7 +24,8 @@ all-nets-requires c κs =
     (s .pre .tops, length-take-le _ _ (s .pre .few) ∙ s .pre .long)
 
 -- as many nets are stored as the list has columns
-filled : (d : tie.After-all-nets) → length (d .all-nets .last .1 .1 .1 .0) ≡ length (d .before .before .before .before .before .args .columns .now)
+filled : (d : tie.After-all-nets)
+    → length (d .all-nets .last .1 .1 .1 .0) ≡ length (d .before .before .before .before .before .args .columns .now)
 filled d =
     let s = d .before .before .before .before .before in
     ap length (d .all-nets .ensures)

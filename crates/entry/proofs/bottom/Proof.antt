@@ -21,7 +21,9 @@ returns c =
     (held (a .work .now) (a .place .at - a .grid .size)) (c .if1 .taken)
 
 sub-read-word : tie.Need-sub-read-word
-sub-read-word c = c .before .before .before .before .before .before .before .before .pre .1 .before (omega (arith, c .before .before .before .before .if1 .left))
+sub-read-word c =
+    c .before .before .before .before .before .before .before .before .pre .1 .before
+    (omega (arith, c .before .before .before .before .if1 .left))
 
 returns-2 : tie.Need-returns-2
 unfolding stepped

@@ -38,7 +38,8 @@ loop-again c =
           ∙ ap₂ (λ (p q : Bool). p || q) (ap (λ (v : ℕ). bitOf v y) (w .1 .ensures)) (l .inv .1 y)
           ∙ sym (anyBelow-taken (l .n) step (from y) (sym (c .before .bit .ensures) ∙ w .0 .taken)))
           (λ w y.
-          ap (λ (v : ℕ). bitOf v y) (w .1) ∙ l .inv .1 y ∙ sym (anyBelow-left (l .n) step (from y) (sym (c .before .bit .ensures) ∙ w .0 .left)))
+          ap (λ (v : ℕ). bitOf v y) (w .1) ∙ l .inv .1 y
+          ∙ sym (anyBelow-left (l .n) step (from y) (sym (c .before .bit .ensures) ∙ w .0 .left)))
           (c .if1 .came),
     )
 

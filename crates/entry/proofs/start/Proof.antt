@@ -6,10 +6,12 @@ use Rattle.entry.proofs.start.Statement.{statement}
 use Rattle.entry.proofs.start.Tie as tie
 
 returns : tie.Need-returns
-returns c = λ y h. rw (eq-eqb _ _ (c .before .before .if1 .taken), eq-eqb _ _ (c .before .if2 .taken), eq-eqb _ _ (c .if3 .taken)) (bit-one y)
+returns c =
+    λ y h. rw (eq-eqb _ _ (c .before .before .if1 .taken), eq-eqb _ _ (c .before .if2 .taken), eq-eqb _ _ (c .if3 .taken)) (bit-one y)
 
 returns-2 : tie.Need-returns-2
-returns-2 c = λ y h. rw (eq-eqb _ _ (c .before .before .if1 .taken), eq-eqb _ _ (c .before .if2 .taken), ne-eqb _ _ (c .if3 .left)) (bit-zero y)
+returns-2 c =
+    λ y h. rw (eq-eqb _ _ (c .before .before .if1 .taken), eq-eqb _ _ (c .before .if2 .taken), ne-eqb _ _ (c .if3 .left)) (bit-zero y)
 
 returns-3 : tie.Need-returns-3
 returns-3 c = λ y h. rw (eq-eqb _ _ (c .before .if1 .taken), ne-eqb _ _ (c .if2 .left)) (bit-zero y)

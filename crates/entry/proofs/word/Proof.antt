@@ -19,7 +19,8 @@ returns c =
     c .either3 .ensures y
     ∙ ap₂ or (at-start .start .ensures y h)
     (c .before .either2 .ensures y
-    ∙ ap₂ or (at-top .top .ensures y h) (c .before .before .either .ensures y ∙ ap₂ or (at-bottom .bottom .ensures y h) (at-pair .pair .ensures y h)))
+    ∙ ap₂ or (at-top .top .ensures y h)
+    (c .before .before .either .ensures y ∙ ap₂ or (at-bottom .bottom .ensures y h) (at-pair .pair .ensures y h)))
 
 pub word-spec : {M : Type 1} → statement M
 word-spec =

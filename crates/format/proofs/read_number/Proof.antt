@@ -28,11 +28,14 @@ loop-holds c =
 mul-value : tie.Need-mul-value Inv-loop μ-loop
 mul-value c =
     let i = c .before .loop .inv in
-    let b : c .before .loop .value * 256 + 0 < 2 ^ 64 = byte-fits (c .before .before .args .n) (c .before .loop .left) (c .loop-test .taken) (i .0) (c .before .before .pre .1) (i .2) (lit< tt) in
+    let b : c .before .loop .value * 256 + 0 < 2 ^ 64 =
+    byte-fits (c .before .before .args .n) (c .before .loop .left) (c .loop-test .taken) (i .0) (c .before .before .pre .1) (i .2)
+    (lit< tt) in
     omega arith
 
 -- the byte that is read
-byte : (c : tie.After-shared-slice-known Inv-loop μ-loop) → getD (c .before .before .before .args .s .now) (c .before .before .before .args .at + (c .before .before .loop .left - 1)) 0 < 256
+byte : (c : tie.After-shared-slice-known Inv-loop μ-loop)
+    → getD (c .before .before .before .args .s .now) (c .before .before .before .args .at + (c .before .before .loop .left - 1)) 0 < 256
 byte c = c .shared-slice-known .given (c .before .before .before .args .at + (c .before .before .loop .left - 1)) .fits
 
 cast-value : tie.Need-cast-value Inv-loop μ-loop
@@ -41,7 +44,10 @@ cast-value c = omega (arith, c .shared-slice-known .given (c .before .before .be
 add-value-2 : tie.Need-add-value-2 Inv-loop μ-loop
 add-value-2 c =
     let i = c .before .before .loop .inv in
-    record { fits = byte-fits (c .before .before .before .args .n) (c .before .before .loop .left) (c .before .loop-test .taken) (i .0) (c .before .before .before .pre .1) (i .2) (byte c) }
+    record {
+      fits = byte-fits (c .before .before .before .args .n) (c .before .before .loop .left) (c .before .loop-test .taken) (i .0)
+          (c .before .before .before .pre .1) (i .2) (byte c);
+    }
 
 loop-again : tie.Need-loop-again Inv-loop μ-loop
 loop-again c =
@@ -49,7 +55,8 @@ loop-again c =
     let a = c .before .before .before .args in
     let k = c .before .before .loop .left in (
       omega arith,
-      ap (λ (v : ℕ). v * 256 + getD (a .s .now) (a .at + (k - 1)) 0) (i .1) ∙ little-down (a .n) k (a .s .now) (a .at) (c .before .loop-test .taken) (i .0),
+      ap (λ (v : ℕ). v * 256 + getD (a .s .now) (a .at + (k - 1)) 0) (i .1)
+          ∙ little-down (a .n) k (a .s .now) (a .at) (c .before .loop-test .taken) (i .0),
       byte-more (a .n) k (c .before .loop-test .taken) (i .0) (i .2) (byte c),
     )
 

@@ -36,7 +36,9 @@ loop-again c =
     let l = at-loop .loop in
     let a = at-loop .before .before .before .before .args in
     let put = c .before .before .put-entry in
-    let line = next-line (a .side) (a .part .now) (a .columns .now) (l .k) _ (at-record-in .record-in .ensures) (at-loop-test .loop-test .taken) in
+    let line =
+    next-line (a .side) (a .part .now) (a .columns .now) (l .k) _ (at-record-in .record-in .ensures)
+    (at-loop-test .loop-test .taken) in
     (same-text line (after (l .inv .0) (put .ensures .0)), omega (arith, put .ensures .1), omega arith)
 
 same-length : tie.Need-same-length Inv-loop μ-loop

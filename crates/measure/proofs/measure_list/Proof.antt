@@ -32,7 +32,8 @@ returns-2 c =
     (sym (c .before .all-allowed2 .ensures) ∙ not-true _ (c .if2 .taken))
 
 out-of-range-requires : tie.Need-out-of-range-requires
-out-of-range-requires c κs = (length-take-le _ _ (omega arith) ∙ c .before .before .before .before .before .before .before .before .before .pre .tops, omega arith)
+out-of-range-requires c κs =
+    (length-take-le _ _ (omega arith) ∙ c .before .before .before .before .before .before .before .before .before .pre .tops, omega arith)
 
 returns-3 : tie.Need-returns-3
 returns-3 c =

@@ -26,8 +26,10 @@ places-of-requires : tie.Need-places-of-requires
 places-of-requires c κs =
     let d = c .before .before .before .before .before .before .before in
     let ns = d .args .nets .now in
-    let p = d .pre .0 in
-    (omega (arith, length-take-le (d .args .p) ns (p .split), p .top), rw (part-rest ns (d .args .p), length-drop) (omega (arith, p .bottom)))
+    let p = d .pre .0 in (
+      omega (arith, length-take-le (d .args .p) ns (p .split), p .top),
+      rw (part-rest ns (d .args .p), length-drop) (omega (arith, p .bottom)),
+    )
 
 returns-2 : tie.Need-returns-2
 returns-2 c =
@@ -35,10 +37,12 @@ returns-2 c =
     let ns = a .nets .now in
     let n = getD ns (a .m) 0 in
     let s = c .before .before .before .before .before .before .before .before .occurs in
-    put-one (take (a .p) ns) (drop (a .p) ns) ns (a .m) (a .places .now) _ (a .k) (s .result) (c .before .before .before .before .places-of .result)
+    put-one (take (a .p) ns) (drop (a .p) ns) ns (a .m) (a .places .now) _ (a .k) (s .result)
+    (c .before .before .before .before .places-of .result)
     (s .ensures)
     (c .before .before .before .before .before .before .before .if1 .left)
-    (c .before .before .before .before .places-of .ensures ∙ ap (λ (bottoms : List ℕ). placesOf (take (a .p) ns) bottoms n) (part-rest ns (a .p)))
+    (c .before .before .before .before .places-of .ensures
+    ∙ ap (λ (bottoms : List ℕ). placesOf (take (a .p) ns) bottoms n) (part-rest ns (a .p)))
     (omega arith)
     (c .before .before .write-places .ensures)
 

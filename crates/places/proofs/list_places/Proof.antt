@@ -17,7 +17,8 @@ Inv-loop nets p places₀ k₀ m₀ places k m =
     (length places ≡ length places₀)
     × (m ≤ length nets)
     × (k ≤ m)
-    × (take (5 * k) places ++ placesList (take p nets) (drop p nets) (distinct (drop m nets)) ≡ placesList (take p nets) (drop p nets) (distinct nets))
+    × (take (5 * k) places ++ placesList (take p nets) (drop p nets) (distinct (drop m nets))
+    ≡ placesList (take p nets) (drop p nets) (distinct nets))
     × (drop (5 * k) places ≡ drop (5 * k) places₀)
 
 abbrev μ-loop : tie.MeasureT-loop

@@ -59,7 +59,8 @@ returns c =
     let n = a .layout .shape in
     let size = length-take-le (n .top) (a .columns .now) (omega (arith, start .pre .1)) in
     let rest = length-take-le (n .pins - n .top) (drop (n .top) (a .columns .now)) (rw length-drop (omega (arith, start .pre .1))) in (
-      same-text (side-lines (a .input .now) (a .layout) (start .pre .0) (a .columns .now) (start .pre .1) _ _ (at-top .part-in .ensures .bytes)
+      same-text (side-lines (a .input .now) (a .layout) (start .pre .0) (a .columns .now) (start .pre .1) _ _
+          (at-top .part-in .ensures .bytes)
           (at-bottom .part-in2 .ensures .bytes)) (after (first .0) (second .0)),
       omega (arith, first .1, second .1, start .pre .1),
     )

@@ -23,7 +23,10 @@ mul-work : tie.Need-mul-work Inv-loop μ-loop
 mul-work c = omega (arith, c .loop-test .taken, c .before .loop .inv .1)
 
 slice-write-work : tie.Need-slice-write-work Inv-loop μ-loop
-slice-write-work c = omega (arith, c .loop-test .taken, c .before .loop .inv .1, cleared-length (c .before .loop .i) (c .before .before .args .work .now) (c .before .loop .work) (omega (arith, c .loop-test .taken, c .before .loop .inv .1)) (c .before .loop .inv .2))
+slice-write-work c =
+    let l = c .before .loop in
+    let inside : l .i ≤ length (c .before .before .args .work .now) = omega (arith, c .loop-test .taken, l .inv .1) in
+    omega (arith, c .loop-test .taken, l .inv .1, cleared-length (l .i) (c .before .before .args .work .now) (l .work) inside (l .inv .2))
 
 add-i : tie.Need-add-i Inv-loop μ-loop
 add-i c = omega (arith, c .loop-test .taken, c .before .loop .inv .1)
@@ -37,11 +40,14 @@ loop-again c =
     let a = c .before .before .args in (
       omega (arith, c .loop-test .taken),
       l .inv .1,
-      ap (λ (cells : List ℕ). set cells (l .i) 0) (l .inv .2) ∙ fill-more (l .i) 0 (a .work .now) (omega (arith, c .loop-test .taken, l .inv .1)),
+      ap (λ (cells : List ℕ). set cells (l .i) 0) (l .inv .2)
+          ∙ fill-more (l .i) 0 (a .work .now) (omega (arith, c .loop-test .taken, l .inv .1)),
     )
 
 same-length : tie.Need-same-length Inv-loop μ-loop
-same-length c = let l = c .before .loop in cleared-length (l .i) (c .before .before .args .work .now) (l .work) (omega (arith, l .inv .0, l .inv .1)) (l .inv .2)
+same-length c =
+    let l = c .before .loop in
+    cleared-length (l .i) (c .before .before .args .work .now) (l .work) (omega (arith, l .inv .0, l .inv .1)) (l .inv .2)
 
 returns : tie.Need-returns Inv-loop μ-loop
 returns c =

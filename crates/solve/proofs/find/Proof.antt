@@ -15,13 +15,15 @@ returns : tie.Need-returns
 returns c =
     let start = c .before .before .before .before .before in
     let a = start .args in
-    crowded-worked (a .top .now) (a .bottom .now) (a .shape) (length (a .columns .now)) (length (a .work .now)) (start .pre) _ _ (inl (c .if1 .taken))
+    crowded-worked (a .top .now) (a .bottom .now) (a .shape) (length (a .columns .now)) (length (a .work .now)) (start .pre) _ _
+    (inl (c .if1 .taken))
 
 returns-2 : tie.Need-returns-2
 returns-2 c =
     let start = c .before .before .before .before .before .before in
     let a = start .args in
-    crowded-worked (a .top .now) (a .bottom .now) (a .shape) (length (a .columns .now)) (length (a .work .now)) (start .pre) _ _ (inr (c .if2 .taken))
+    crowded-worked (a .top .now) (a .bottom .now) (a .shape) (length (a .columns .now)) (length (a .work .now)) (start .pre) _ _
+    (inr (c .if2 .taken))
 
 read-rules-requires : tie.Need-read-rules-requires
 read-rules-requires c κs =
@@ -84,7 +86,8 @@ returns-3 c =
     (rules-kept 0 1 (terminalsIn (a .top .now)) (terminalsIn (a .bottom .now)) _ _ (λ e. omega arith) (start .pre .sound .counts .0)
     (at-read-rules .read-rules .ensures .rules) (at-read-rules2 .read-rules2 .ensures))
     (at-read-rules2 .read-rules2 .ensures .rules)
-    (loads-sheet (a .shape .columns) (a .top .now) (a .bottom .now) _ _ (at-read-loads .read-loads .ensures)) _ _ _ (at-place .place .ensures)
+    (loads-sheet (a .shape .columns) (a .top .now) (a .bottom .now) _ _ (at-read-loads .read-loads .ensures)) _ _ _
+    (at-place .place .ensures)
 
 pub find-spec : {M : Type 1} → statement M
 find-spec =

@@ -17,4 +17,5 @@ returns c = rw (c .rows-of .ensures)
 
 pub make-plan-spec : {M : Type 1} → statement M
 make-plan-spec =
-    tie.close (tie.spec (λ c. search needs) (λ c. search needs) mul-size (λ c κs. search needs) (λ c. search needs) (λ c. search needs) mul-t9 returns)
+    tie.close (tie.spec (λ c. search needs) (λ c. search needs) mul-size (λ c κs. search needs) (λ c. search needs)
+    (λ c. search needs) mul-t9 returns)

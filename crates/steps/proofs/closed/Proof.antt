@@ -35,4 +35,5 @@ returns c = λ n h.
 pub closed-spec : {M : Type 1} → statement M
 closed-spec =
     tie.close
-    (tie.spec cast-end sub-end (λ c κs. search needs) (λ c κs. search needs) (λ c κs. search needs) (λ c. search needs) (λ c κs. search needs) (λ c. search needs) returns (λ c κs. search needs) (λ c. search needs))
+    (tie.spec cast-end sub-end (λ c κs. search needs) (λ c κs. search needs) (λ c κs. search needs) (λ c. search needs)
+    (λ c κs. search needs) (λ c. search needs) returns (λ c κs. search needs) (λ c. search needs))

@@ -35,7 +35,8 @@ loop-again c =
 returns : tie.Need-returns Inv-loop μ-loop
 returns c = λ n h.
     let l = c .before .loop in
-    sym (l .inv n h ∙ ap (λ (k : ℕ). bitOf (l .found) n || stepped (l .moved) k n) (c .loop-test .left) ∙ rw (stepped-none (l .moved) n) (or-false (bitOf (l .found) n)))
+    sym (l .inv n h ∙ ap (λ (k : ℕ). bitOf (l .found) n || stepped (l .moved) k n) (c .loop-test .left)
+    ∙ rw (stepped-none (l .moved) n) (or-false (bitOf (l .found) n)))
 
 pub one-by-one-spec : {M : Type 1} → statement M
 one-by-one-spec = tie.close (tie.spec Inv-loop μ-loop loop-holds (λ c. omega arith) loop-again returns)

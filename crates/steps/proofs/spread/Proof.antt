@@ -27,8 +27,10 @@ returns : tie.Need-returns Inv-loop μ-loop
 returns c = λ n h.
     let l = c .before .loop in
     let args = c .before .before .args in
-    spread-more (args .w) (l .found) (l .done) (args .width - l .done) n h (omega arith) (l .inv .2) ∙ ap (λ (a : ℕ). covered (args .w) a n) (omega arith)
+    spread-more (args .w) (l .found) (l .done) (args .width - l .done) n h (omega arith) (l .inv .2)
+    ∙ ap (λ (a : ℕ). covered (args .w) a n) (omega arith)
 
 pub spread-spec : {M : Type 1} → statement M
 spread-spec =
-    tie.close (tie.spec Inv-loop μ-loop loop-holds (λ c. omega arith) (λ c. omega arith) (λ c. omega arith) (λ c. omega arith) loop-again (λ c. omega arith) (λ c. omega arith) returns)
+    tie.close (tie.spec Inv-loop μ-loop loop-holds (λ c. omega arith) (λ c. omega arith) (λ c. omega arith) (λ c. omega arith) loop-again
+    (λ c. omega arith) (λ c. omega arith) returns)

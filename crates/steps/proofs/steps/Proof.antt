@@ -21,4 +21,5 @@ returns c = λ n h.
 pub steps-spec : {M : Type 1} → statement M
 steps-spec =
     tie.close
-    (tie.spec (λ c κs. search needs) (λ c κs. search needs) (λ c κs. search needs) (λ c. search needs) (λ c κs. search needs) returns (λ c κs. search needs) (λ c. search needs))
+    (tie.spec (λ c κs. search needs) (λ c κs. search needs) (λ c κs. search needs) (λ c. search needs) (λ c κs. search needs) returns
+    (λ c κs. search needs) (λ c. search needs))

@@ -68,7 +68,8 @@ module _ (t : ℕ) where
       omega (arith, digits-at-most (start .args .most - 1) (start .args .n / 10), kept w, w .place, at-if1 .if1 .left, start .pre .1)
 
   same-length-2 : put-digits-lts.Need-same-length-2 (claims t) (put-digits-at t) put-digits.Post
-  same-length-2 c = kept (c .before .before .put-byte2 .ensures) ∙ kept (c .before .before .before .before .before .before .before .put-digits .ensures)
+  same-length-2 c =
+      kept (c .before .before .put-byte2 .ensures) ∙ kept (c .before .before .before .before .before .before .before .put-digits .ensures)
 
   returns-3 : put-digits-lts.Need-returns-3 (claims t) (put-digits-at t) put-digits.Post
   returns-3 c =
@@ -82,5 +83,6 @@ module _ (t : ℕ) where
 pub +put-digits-spec : {M : Type 1} → statement M
 +put-digits-spec =
     close μ-put-digits
-    (λ t. put-digits-lts.spec (claims t) (put-digits-at t) put-digits.Post (returns t) (digit-requires t) (put-byte-requires t) (same-length t) (returns-2 t) (sub-put-digits t)
+    (λ t. put-digits-lts.spec (claims t) (put-digits-at t) put-digits.Post (returns t) (digit-requires t) (put-byte-requires t)
+    (same-length t) (returns-2 t) (sub-put-digits t)
     (put-digits-requires t) (digit-requires-2 t) (put-byte-requires-2 t) (same-length-2 t) (returns-3 t))

@@ -11,7 +11,13 @@ put-one-requires : tie.Need-put-one-requires
 put-one-requires c κs =
     let start = c .before .before .before .before .before in
     let a = start .args in
-    λ h. omega (arith, c .less .ensures, pin-left (a .letter) (a .m .i) 1 3 (sym (c .before .has-top .ensures) ∙ h), start .pre .1, start .pre .2)
+    λ h. omega (
+      arith,
+      c .less .ensures,
+      pin-left (a .letter) (a .m .i) 1 3 (sym (c .before .has-top .ensures) ∙ h),
+      start .pre .1,
+      start .pre .2,
+    )
 
 put-one-requires-2 : tie.Need-put-one-requires-2
 put-one-requires-2 c κs =

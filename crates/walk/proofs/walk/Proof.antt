@@ -17,16 +17,23 @@ Inv-loop work rules grid p q l columns₀ m₀ left₀ columns m left =
     (left ≡ m .c)
     × Walks p q m
     × (length columns ≡ length columns₀)
-    × (walkColumns work rules grid p q left m columns ≡ walkColumns work rules grid p q l (record { c = l; i = p; j = q; top = 0; bottom = 0 }) columns₀)
+    × (walkColumns work rules grid p q left m columns
+    ≡ walkColumns work rules grid p q l (record { c = l; i = p; j = q; top = 0; bottom = 0 }) columns₀)
 
 abbrev μ-loop : tie.MeasureT-loop
 μ-loop work rules grid p q l columns₀ m₀ left₀ columns m left = left
 
 loop-holds : tie.Need-loop-holds Inv-loop μ-loop
-loop-holds c = let a = c .before .before .before .args in (refl, walks-from (a .p) (a .q) (a .l) (c .before .before .before .pre .1), refl, refl)
+loop-holds c =
+    let start = c .before .before .before in
+    let a = start .args in (refl, walks-from (a .p) (a .q) (a .l) (start .pre .1), refl, refl)
 
 choose-requires : tie.Need-choose-requires Inv-loop μ-loop
-choose-requires c κs = (c .before .before .before .before .before .pre .0, c .before .loop .inv .1, omega (arith, c .loop-test .taken, c .before .loop .inv .0))
+choose-requires c κs = (
+  c .before .before .before .before .before .pre .0,
+  c .before .loop .inv .1,
+  omega (arith, c .loop-test .taken, c .before .loop .inv .0),
+)
 
 put-requires : tie.Need-put-requires Inv-loop μ-loop
 put-requires c κs =
@@ -35,7 +42,12 @@ put-requires c κs =
     (at-loop .loop .inv .1 .c, at-loop .loop .inv .1 .i, omega (arith, start .pre .2, at-loop .loop .inv .2, at-loop .loop .inv .1 .j))
 
 go-requires : tie.Need-go-requires Inv-loop μ-loop
-go-requires c κs = omega (arith, c .before .before .before .before .before .loop-test .taken, c .before .before .before .before .before .before .loop .inv .0)
+go-requires c κs =
+    omega (
+      arith,
+      c .before .before .before .before .before .loop-test .taken,
+      c .before .before .before .before .before .before .loop .inv .0,
+    )
 
 sub-left : tie.Need-sub-left Inv-loop μ-loop
 sub-left c = omega (arith, c .before .before .before .before .before .before .loop-test .taken)

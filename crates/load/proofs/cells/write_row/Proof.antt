@@ -29,8 +29,11 @@ write-cell-requires c κs =
 loop-again : tie.Need-loop-again Inv-loop μ-loop
 loop-again c =
     let d = c .before .before .before .before .before .before .before .before .before .before in
-    let l = c .before .before .before .before .before .loop in
-    (omega arith, row-more _ _ _ (l .loads) _ _ (l .j) (omega (arith, d .pre .0 .bottom)) (l .inv .1) (c .before .before .write-cell .ensures))
+    let l = c .before .before .before .before .before .loop in (
+      omega arith,
+      row-more _ _ _ (l .loads) _ _ (l .j) (omega (arith, d .pre .0 .bottom)) (l .inv .1)
+          (c .before .before .write-cell .ensures),
+    )
 
 same-length : tie.Need-same-length Inv-loop μ-loop
 same-length c = c .before .loop .inv .1 .size

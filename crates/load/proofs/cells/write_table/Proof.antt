@@ -10,7 +10,8 @@ use Rattle.load.proofs.cells.write_table.Statement.{statement}
 use Rattle.load.proofs.cells.write_table.Tie as tie
 
 abbrev Inv-loop : tie.InvT-loop
-Inv-loop tops bottoms places loads₀ i₀ loads i = (i ≤ length tops + 1) × Written tops bottoms loads₀ loads (λ (x y : ℕ). (x < i) × (y < length bottoms + 1))
+Inv-loop tops bottoms places loads₀ i₀ loads i =
+    (i ≤ length tops + 1) × Written tops bottoms loads₀ loads (λ (x y : ℕ). (x < i) × (y < length bottoms + 1))
 
 abbrev μ-loop : tie.MeasureT-loop
 μ-loop tops bottoms places loads₀ i₀ loads i = length tops + 1 - i

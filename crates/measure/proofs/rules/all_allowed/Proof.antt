@@ -39,7 +39,8 @@ turn d =
     (d .before .before .before .loop-test .taken)
     (d .before .before .terminal-at .result)
     (d .before .before .terminal-at .ensures)
-    ∙ ap (λ (ok : Bool). ok && sideAllowed (drop (l .i + 1) (terminalsIn (a .part .now))) (drop (l .i + 1) (a .columns .now))) (sym (d .allows .ensures))
+    ∙ ap (λ (ok : Bool). ok && sideAllowed (drop (l .i + 1) (terminalsIn (a .part .now))) (drop (l .i + 1) (a .columns .now)))
+    (sym (d .allows .ensures))
 
 returns : tie.Need-returns Inv-loop μ-loop
 returns c = sym (turn (c .before) ∙ rw (not-true (c .before .allows .result) (c .if1 .taken)))

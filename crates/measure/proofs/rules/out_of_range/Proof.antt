@@ -75,7 +75,8 @@ turn d =
     let columns : List ℕ = d .before .before .before .before .before .before .side-at2 .result .now in
     let l = d .before .before .before .before .before .loop in
     l .inv .2
-    ∙ kept-more part columns (same (d .before .before .before .before .before .before)) (l .i) (d .before .before .before .before .loop-test .taken)
+    ∙ kept-more part columns (same (d .before .before .before .before .before .before)) (l .i)
+    (d .before .before .before .before .loop-test .taken)
     (d .before .before .before .terminal-at .result) (d .before .before .before .terminal-at .ensures) (getD columns (l .i - 1) 0)
     ∙ ap (λ (ok : Bool). ok && laterKept (drop (l .i + 1) (terminalsIn part)) (getD columns (l .i + 1 - 1) 0) (drop (l .i + 1) columns))
     (sym (d .in-range .ensures))
@@ -97,7 +98,8 @@ scan-again c =
       omega arith,
       l .inv .1 ∙ s .inv .1,
       s .inv .2
-          ∙ from-kept (kept d) (s .side) (omega (arith, d .before .before .scan-test .taken)) (here d ∙ l .inv .2 ∙ kept-past _ _ (l .i) past _),
+          ∙ from-kept (kept d) (s .side) (omega (arith, d .before .before .scan-test .taken))
+          (here d ∙ l .inv .2 ∙ kept-past _ _ (l .i) past _),
     )
 
 returns : tie.Need-returns Inv-loop μ-loop Inv-scan μ-scan

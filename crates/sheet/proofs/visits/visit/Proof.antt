@@ -15,7 +15,8 @@ returns c =
 returns-2 : tie.Need-returns-2
 returns-2 c =
     let start = c .before .before .before .before in
-    let a = start .args in ap (visitOf (a .side) (a .place) (a .next)) (sym (c .enum-told .given .1) ∙ c .before .before .record-at .ensures)
+    let a = start .args in
+    ap (visitOf (a .side) (a .place) (a .next)) (sym (c .enum-told .given .1) ∙ c .before .before .record-at .ensures)
 
 pub visit-spec : {M : Type 1} → statement M
 visit-spec = tie.close (tie.spec (λ c κs. search needs) (λ c. search needs) (λ c. search needs) returns returns-2)

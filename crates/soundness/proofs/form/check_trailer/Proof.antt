@@ -27,7 +27,12 @@ unfolding trailerCheck
 returns-4 c =
     let at-if2 = c .before .before .before .before .before .before in
     let at-if1 = at-if2 .before in
-    simp (ne-eqb _ _ (at-if1 .if1 .left), le-ltb _ _ (at-if2 .if2 .left), le-ltb _ _ (c .before .before .if3 .left), lt-ltb _ _ (c .if4 .taken))
+    simp (
+      ne-eqb _ _ (at-if1 .if1 .left),
+      le-ltb _ _ (at-if2 .if2 .left),
+      le-ltb _ _ (c .before .before .if3 .left),
+      lt-ltb _ _ (c .if4 .taken),
+    )
 
 returns-5 : tie.Need-returns-5
 unfolding trailerCheck

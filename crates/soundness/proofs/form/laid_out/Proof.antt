@@ -17,7 +17,9 @@ returns-2 c = simp (eq-eqb _ _ (c .before .before .if1 .left), sym (c .before .s
 
 returns-3 : tie.Need-returns-3
 unfolding laidOut
-returns-3 c = simp (eq-eqb _ _ (c .before .before .before .if1 .left), sym (c .before .before .second-follows .ensures) ∙ c .before .if2 .left) (c .second-follows2 .ensures)
+returns-3 c =
+    simp (eq-eqb _ _ (c .before .before .before .if1 .left), sym (c .before .before .second-follows .ensures) ∙ c .before .if2 .left)
+    (c .second-follows2 .ensures)
 
 pub laid-out-spec : {M : Type 1} → statement M
 laid-out-spec =

@@ -1,4 +1,5 @@
--- `soundness::check_side` meets its contract. The loop's invariant: what is still to be said of the side is said by the terminals that are left.
+-- `soundness::check_side` meets its contract. The loop's invariant: what is still to be said of the side is said by the
+-- terminals that are left.
 -- The measure is how many they are.
 -- Assumes nothing.
 use Prim.Native.Nat.{_≤_, _+_, _-_}
@@ -50,11 +51,14 @@ turn d =
     l .inv .1
     ∙ side-more (a .columns) (eqb (l .i) 0) (terminalsIn (a .section .now)) (l .i) (omega (arith, at-count-in .count-in .ensures))
     ∙ ap (λ (r : Checked). r orElse rest d)
-    (sym (d .check-record .ensures ∙ ap (λ (r : Record). terminalCheck (a .columns) (eqb (l .i) 0) (terminalOf r)) (d .before .terminal-at .ensures)))
+    (sym (d .check-record .ensures
+    ∙ ap (λ (r : Record). terminalCheck (a .columns) (eqb (l .i) 0) (terminalOf r)) (d .before .terminal-at .ensures)))
 
 returns : tie.Need-returns Inv-loop μ-loop
 unfolding whole
-returns c = c .enum-told2 .given .1 ∙ sym (turn (c .before .before) ∙ ap (λ (r : Checked). r orElse rest (c .before .before)) (c .enum-told2 .given .1))
+returns c =
+    c .enum-told2 .given .1
+    ∙ sym (turn (c .before .before) ∙ ap (λ (r : Checked). r orElse rest (c .before .before)) (c .enum-told2 .given .1))
 
 loop-again : tie.Need-loop-again Inv-loop μ-loop
 unfolding whole rest

@@ -45,10 +45,16 @@ add-at c =
     let at-loop = at-loop-test .before in
     let start = at-loop .before .before .before .before in
     let a = start .args in
-    let l = at-loop .loop in omega (arith, row-in-table (a .grid) (l .i) (a .p) (at-loop-test .loop-test .taken), l .inv .1, start .pre .1 .room)
+    let l = at-loop .loop in
+    omega (arith, row-in-table (a .grid) (l .i) (a .p) (at-loop-test .loop-test .taken), l .inv .1, start .pre .1 .room)
 
 add-i : tie.Need-add-i Inv-loop μ-loop
-add-i c = omega (arith, c .before .before .before .before .loop-test .taken, c .before .before .before .before .before .before .before .before .before .pre .1 .tops)
+add-i c =
+    omega (
+      arith,
+      c .before .before .before .before .loop-test .taken,
+      c .before .before .before .before .before .before .before .before .before .pre .1 .tops,
+    )
 
 loop-less : tie.Need-loop-less Inv-loop μ-loop
 loop-less c = omega (arith, c .before .before .before .before .loop-test .taken)

@@ -87,7 +87,8 @@ loop-again c =
           (λ (m y : ℕ). heldAt (a .work .now) (a .grid) (a .i) (a .j) m y && bitOf (a .mask) y) (w .2 .result) (w .3 .left)
           (λ y. w .2 .ensures y ∙ ap (λ (v : ℕ). bitOf v y && bitOf (a .mask) y) (w .1 .ensures)) (l .inv .2))
           (λ w. row-skipped (a .low) (l .x) (λ (m : ℕ). bitOf (a .by) (a .next - m))
-          (λ (m y : ℕ). heldAt (a .work .now) (a .grid) (a .i) (a .j) m y && bitOf (a .mask) y) (sym (c .before .bit .ensures) ∙ w .left) (l .inv .2))
+          (λ (m y : ℕ). heldAt (a .work .now) (a .grid) (a .i) (a .j) m y && bitOf (a .mask) y) (sym (c .before .bit .ensures) ∙ w .left)
+          (l .inv .2))
           (c .if1 .came),
     )
 
@@ -99,7 +100,8 @@ returns-2 c =
     let l = c .before .loop in
     let end : l .x ≡ suc (a .high) = omega arith in
     none-meets (λ (m : ℕ). leb (a .low) m &&
-    (bitOf (a .by) (a .next - m) && inWord (λ (y : ℕ). heldAt (a .work .now) (a .grid) (a .i) (a .j) m y && bitOf (a .mask) y))) (l .x) (suc (a .high)) end
+    (bitOf (a .by) (a .next - m) && inWord (λ (y : ℕ). heldAt (a .work .now) (a .grid) (a .i) (a .j) m y && bitOf (a .mask) y)))
+    (l .x) (suc (a .high)) end
     (l .inv .2)
 
 pub meets-spec : {M : Type 1} → statement M

@@ -7,7 +7,9 @@ use Rattle.terminal.proofs.columns.allows.Statement.{statement}
 use Rattle.terminal.proofs.columns.allows.Tie as tie
 
 returns-2 : tie.Need-returns-2
-returns-2 c = sym (allows-below (c .before .before .args .set) 64 (c .before .before .args .column) (c .before .before .fits .set .fits) (c .if2 .taken))
+returns-2 c =
+    sym (allows-below (c .before .before .args .set) 64 (c .before .before .args .column)
+    (c .before .before .fits .set .fits) (c .if2 .taken))
 
 returns-3 : tie.Need-returns-3
 returns-3 c = sym (allows-at (c .before .before .args .set) (c .before .before .args .column) (c .before .if1 .left))
