@@ -1,6 +1,5 @@
 // Numbers that look random. Each depends on the sheet's number, on what is drawn and for which terminal, and
 // on nothing else.
-use crate::cells;
 
 fn scramble(x: u64) -> u64 {
     let a = x ^ (x << 13);
@@ -22,5 +21,5 @@ pub fn draw(sheet: u64, what: u64, t: usize, low: u8, high: u8) -> u8 {
     }
     let size = (high - low) as u64 + 1;
     let x = bits(sheet, what, t) % size;
-    low + cells::low_byte(x)
+    low + x as u8
 }

@@ -1,14 +1,11 @@
 // Compares the library's search with a separately written exhaustive one on many small sheets, and its measurements
 // with the program's own reading of the rules.
+use printing::number;
+use std::num::wrapping_add_u64;
 use trials::Trial;
 
-mod bytes;
-mod cells;
 mod draws;
-mod lists;
-mod marks;
 mod measures;
-mod report;
 mod sheets;
 mod trials;
 
@@ -25,37 +22,23 @@ struct Counts {
     wrong: u64,
 }
 
-// One more, if `x` holds.
-fn more(n: u64, x: bool) -> u64 {
-    if x {
-        std::num::wrapping_add_u64(n, 1)
-    } else {
-        n
-    }
-}
-
 fn add(counts: Counts, trial: Trial) -> Counts {
     Counts {
-        found: more(counts.found, trial.found),
-        tied: more(counts.tied, trial.tied),
-        assignments: std::num::wrapping_add_u64(counts.assignments, trial.assignments),
-        wrong: more(counts.wrong, !trial.agrees),
+        found: wrapping_add_u64(counts.found, trial.found as u64),
+        tied: wrapping_add_u64(counts.tied, trial.tied as u64),
+        assignments: wrapping_add_u64(counts.assignments, trial.assignments),
+        wrong: wrapping_add_u64(counts.wrong, trial.wrong as u64),
     }
 }
 
 fn summary(counts: Counts) {
-    io::print_decimal(1, SHEETS);
-    io::write_all(1, b" sheets, ");
-    io::print_decimal(1, counts.found);
-    io::write_all(1, b" with an assignment, ");
-    io::print_decimal(1, counts.tied);
-    io::write_all(1, b" with a tie, ");
-    io::print_decimal(1, MEASUREMENTS);
-    io::write_all(1, b" measurements, ");
-    io::print_decimal(1, counts.assignments);
-    io::write_all(1, b" of an assignment, ");
-    io::print_decimal(1, counts.wrong);
-    io::write_all(1, b" differences\n");
+    number(b"", SHEETS);
+    number(b" sheets, ", counts.found);
+    number(b" with an assignment, ", counts.tied);
+    number(b" with a tie, ", MEASUREMENTS);
+    number(b" measurements, ", counts.assignments);
+    number(b" of an assignment, ", counts.wrong);
+    printing::text(b" differences\n");
 }
 
 fn compare_all(work: &mut [u16]) {

@@ -1,18 +1,19 @@
 // The library's measurements on one sheet against the program's own reading of the rules. Most of the measured lists
 // need not be assignments.
-use crate::cells;
-use crate::cells::less;
 use crate::draws::bits;
 use crate::draws::draw;
-use crate::lists;
-use crate::more;
-use crate::report;
-use crate::sheets::Plan;
-use crate::sheets::pins;
 use crate::sheets::single;
 use crate::trials::Case;
-use measure::Measured;
-use terminal::Refusal;
+use crate::trials::less;
+use buffers::first_columns;
+use enumeration::List;
+use enumeration::ROOM;
+use enumeration::Sheet;
+use enumeration::pins;
+use fixtures::Page;
+use fixtures::front;
+use format::RECORD;
+use std::num::wrapping_add_u64;
 
 // The lists that are measured on a sheet, by number. Where there is no assignment, the first list of allowed columns
 // stands for the best one.
@@ -37,16 +38,10 @@ const CUT: u8 = 7;
 
 pub const LISTS: u8 = 8;
 
-// How many of a sheet's lists are assignments, and how many had a wrong answer.
+// How many of a sheet's lists are assignments, and whether one had a wrong answer.
 pub struct Measurements {
     pub assignments: u64,
-    pub wrong: u64,
-}
-
-// The same of one list.
-struct Judged {
-    assignment: bool,
-    wrong: bool,
+    pub wrong: bool,
 }
 
 // A refusal's number and density 0, or 0 and the density.
@@ -61,9 +56,9 @@ struct Lent {
     columns: usize,
 }
 
-fn lent_for(k: u8, plan: Plan) -> Lent {
-    let columns = pins(plan);
-    let size = 12 * columns + 12;
+fn lent_for(k: u8, sheet: Sheet) -> Lent {
+    let columns = pins(sheet);
+    let size = RECORD * (columns + 1);
     match k {
         LONGER => Lent {
             size,
@@ -90,47 +85,54 @@ fn number(k: u8, case: Case) -> u64 {
     if k != ALLOWED {
         return best.list;
     }
-    if case.lists == 0 {
+    let lists = enumeration::count_lists(case.sheet);
+    if lists == 0 {
         0
     } else {
-        bits(case.n, 31, 0) % case.lists
+        bits(case.n, 31, 0) % lists
     }
 }
 
-// Puts list k into `list`.
-fn write(k: u8, case: Case, choices: &[u8], list: &mut [u8]) {
-    let plan = case.plan;
-    lists::write_list(number(k, case), plan, choices, list);
+// List k.
+fn list_for(k: u8, case: Case) -> List {
+    let sheet = case.sheet;
+    let start = enumeration::list_of(number(k, case), sheet);
     match k {
-        DRAWN => draw_columns(case.n, plan, list),
-        CHANGED => change(case.n, plan, list),
-        _ => {}
+        DRAWN => draw_columns(case.n, sheet),
+        CHANGED => change(case.n, sheet, start),
+        _ => start,
     }
 }
 
-fn draw_columns(n: u64, plan: Plan, list: &mut [u8]) {
-    let end = pins(plan);
+fn draw_columns(n: u64, sheet: Sheet) -> List {
+    let end = pins(sheet);
+    let mut list = [0u8; ROOM];
     let mut t = 0;
     while t < end {
-        cells::put_byte(list, t, draw(n, 32, t, 0, plan.length));
+        list[t] = draw(n, 32, t, 0, sheet.columns);
         t += 1;
     }
+    list
 }
 
 // Another column for one terminal: mostly one from 0 to L, sometimes any byte.
-fn change(n: u64, plan: Plan, list: &mut [u8]) {
-    let last = cells::low_byte(less(pins(plan)) as u64);
-    let t = draw(n, 33, 0, 0, last) as usize;
-    let most = if n % 4 == 0 { 255 } else { plan.length };
-    cells::put_byte(list, t, draw(n, 34, 0, 0, most));
+fn change(n: u64, sheet: Sheet, start: List) -> List {
+    let mut list = start;
+    let t = draw(n, 33, 0, 0, less(pins(sheet)) as u8) as usize;
+    let most = if n % 4 == 0 { 255 } else { sheet.columns };
+    if t < ROOM {
+        list[t] = draw(n, 34, 0, 0, most);
+    }
+    list
 }
 
 // Whether each column is in its terminal's set.
-fn all_allowed(plan: Plan, terminals: &[u64], list: &[u8]) -> bool {
-    let end = pins(plan);
+fn all_allowed(sheet: Sheet, list: List) -> bool {
+    let end = pins(sheet);
     let mut t = 0;
     while t < end {
-        if cells::allowed(terminals, t) & single(cells::byte(list, t)) == 0 {
+        let terminal = sheet.terminals[t];
+        if terminal.allowed & single(list[t]) == 0 {
             return false;
         }
         t += 1;
@@ -139,18 +141,19 @@ fn all_allowed(plan: Plan, terminals: &[u64], list: &[u8]) -> bool {
 }
 
 // The refusal by the program's own reading, in the order of the rules, and 0 where there is none.
-fn refusal(lent: Lent, plan: Plan, terminals: &[u64], list: &[u8]) -> u8 {
-    if lent.size != 12 * pins(plan) + 12 {
+fn refusal(lent: Lent, sheet: Sheet, list: List) -> u8 {
+    let columns = pins(sheet);
+    if lent.size != RECORD * (columns + 1) {
         // a trailer without its last byte is too short by itself, and has no mark behind a record
-        return if pins(plan) == 0 { 1 } else { 2 };
+        return if columns == 0 { 1 } else { 2 };
     }
-    if lent.columns != pins(plan) {
+    if lent.columns != columns {
         return 12;
     }
-    if !all_allowed(plan, terminals, list) {
+    if !all_allowed(sheet, list) {
         return 13;
     }
-    if lists::distances_fit(plan, terminals, list) {
+    if enumeration::distances_fit(sheet, list) {
         0
     } else {
         14
@@ -158,8 +161,8 @@ fn refusal(lent: Lent, plan: Plan, terminals: &[u64], list: &[u8]) -> u8 {
 }
 
 // What is to be answered to list k. The density of the best list is the one that the exhaustive search found.
-fn expected(k: u8, lent: Lent, case: Case, terminals: &[u64], list: &[u8]) -> Answer {
-    let plan = case.plan;
+fn expected(k: u8, lent: Lent, case: Case, list: List) -> Answer {
+    let sheet = case.sheet;
     let best = case.best;
     if k == BEST && best.found {
         return Answer {
@@ -167,77 +170,59 @@ fn expected(k: u8, lent: Lent, case: Case, terminals: &[u64], list: &[u8]) -> An
             density: best.density as u64,
         };
     }
-    let number = refusal(lent, plan, terminals, list);
+    let number = refusal(lent, sheet, list);
     if number != 0 {
         return Answer { number, density: 0 };
     }
     Answer {
         number,
-        density: lists::density(terminals, list, pins(plan), plan.length) as u64,
+        density: enumeration::density(sheet, list) as u64,
     }
 }
 
-// Measures the lent parts. No measurement here is refused with 3.
-fn run(s: &[u8], list: &[u8], lent: Lent) -> Measured {
-    let size = lent.size;
-    let columns = lent.columns;
-    if s.len() < size {
-        return Measured::Sheet(Refusal::Length);
-    }
-    if list.len() < columns {
-        return Measured::Sheet(Refusal::Length);
-    }
-    measure::measure(&s[..size], &list[..columns])
+fn show(n: u64, wanted: Answer, given: Answer, list: List, columns: usize) {
+    printing::number(b"sheet ", n);
+    printing::columns(b" measured at", &list, columns);
+    printing::density(b": expected ", wanted.number, wanted.density);
+    printing::density(b", measure ", given.number, given.density);
+    printing::text(b"\n");
 }
 
-fn same(a: Answer, b: Answer) -> bool {
-    a.number == b.number && a.density == b.density
-}
-
-fn show(n: u64, wanted: Answer, given: Answer, list: &[u8], columns: usize) {
-    report::print_sheet(n);
-    io::write_all(1, b": expected ");
-    report::print_outcome(wanted.number, wanted.density, list, columns);
-    io::write_all(1, b", measure ");
-    report::print_outcome(given.number, given.density, list, columns);
-    io::write_all(1, b"\n");
-}
-
-fn judge(case: Case, wanted: Answer, given: Answer, list: &[u8], columns: usize) -> Judged {
-    let wrong = !same(wanted, given);
-    if wrong && case.shown {
-        show(case.n, wanted, given, list, columns);
-    }
-    Judged {
-        assignment: wanted.number == 0,
-        wrong,
-    }
-}
-
-// Measures list k.
-fn measure_one(k: u8, case: Case, terminals: &[u64], choices: &[u8], s: &[u8]) -> Judged {
-    let mut list = [0u8; 9];
-    write(k, case, choices, &mut list);
-    let lent = lent_for(k, case.plan);
-    let wanted = expected(k, lent, case, terminals, &list);
-    let r = run(s, &list, lent);
+// Measures list k: whether the list is an assignment, and whether the answer is wrong.
+fn measure_one(k: u8, case: Case, page: &Page) -> Measurements {
+    let list = list_for(k, case);
+    let lent = lent_for(k, case.sheet);
+    let wanted = expected(k, lent, case, list);
+    let columns = first_columns(&list, lent.columns);
+    let r = measure::measure(front(page, lent.size), columns);
     let given = Answer {
         number: measure::number_of(r),
         density: measure::density_of(r) as u64,
     };
-    judge(case, wanted, given, &list, lent.columns)
+    let wrong = wanted.number != given.number || wanted.density != given.density;
+    if wrong && case.shown {
+        show(case.n, wanted, given, list, lent.columns);
+    }
+    Measurements {
+        assignments: (wanted.number == 0) as u64,
+        wrong,
+    }
 }
 
 // Measures all lists of a sheet.
-pub fn measure_all(case: Case, terminals: &[u64], choices: &[u8], s: &[u8]) -> Measurements {
-    let mut assignments: u64 = 0;
-    let mut wrong: u64 = 0;
+pub fn measure_all(case: Case, page: &Page) -> Measurements {
+    let mut all = Measurements {
+        assignments: 0,
+        wrong: false,
+    };
     let mut k: u8 = 0;
     while k < LISTS {
-        let one = measure_one(k, case, terminals, choices, s);
-        assignments = more(assignments, one.assignment);
-        wrong = more(wrong, one.wrong);
+        let one = measure_one(k, case, page);
+        all = Measurements {
+            assignments: wrapping_add_u64(all.assignments, one.assignments),
+            wrong: all.wrong || one.wrong,
+        };
         k += 1;
     }
-    Measurements { assignments, wrong }
+    all
 }

@@ -1,50 +1,47 @@
 // The sheets that are tried. The first are all small sheets with full sets, ranges 1 to 255 and at most three
 // nets; the others are drawn.
-use crate::cells;
 use crate::draws::bits;
 use crate::draws::draw;
+use enumeration::ROOM;
+use enumeration::Sheet;
+use fixtures::Page;
+use fixtures::close;
+use fixtures::full_set;
+use fixtures::put_record;
+use terminal::Record;
 ghost use Prim.Native.Nat.{_≤_};
 
 // L, p, q, and whether the bottom section comes first.
 pub struct Plan {
-    pub length: u8,
-    pub top: u8,
-    pub bottom: u8,
-    pub swapped: bool,
+    columns: u8,
+    top: u8,
+    bottom: u8,
+    bottom_first: bool,
+}
+
+// A least and a greatest distance.
+struct Range {
+    least: u8,
+    greatest: u8,
 }
 
 // L 1 to 4, p and q 0 to 3, and six nets out of three: 4 * 4 * 4 * 729.
 const REGULAR: u64 = 46656;
 
-pub fn pins(plan: Plan) -> usize
-    ensures { λ r. ⌜ r ≤ 510 ⌝ }
-{
-    plan.top as usize + plan.bottom as usize
-}
-
 pub fn plan_of(n: u64) -> Plan {
     if n < REGULAR {
-        regular_plan(n)
-    } else {
-        drawn_plan(n)
+        return Plan {
+            columns: (n % 4) as u8 + 1,
+            top: (n / 4 % 4) as u8,
+            bottom: (n / 16 % 4) as u8,
+            bottom_first: n / 64 % 2 == 1,
+        };
     }
-}
-
-fn regular_plan(n: u64) -> Plan {
     Plan {
-        length: cells::low_byte(n % 4 + 1),
-        top: cells::low_byte(n / 4 % 4),
-        bottom: cells::low_byte(n / 16 % 4),
-        swapped: n / 64 % 2 == 1,
-    }
-}
-
-fn drawn_plan(n: u64) -> Plan {
-    Plan {
-        length: drawn_length(n),
+        columns: drawn_columns(n),
         top: drawn_pins(n, 1),
         bottom: drawn_pins(n, 2),
-        swapped: draw(n, 3, 0, 0, 1) == 1,
+        bottom_first: draw(n, 3, 0, 0, 1) == 1,
     }
 }
 
@@ -59,7 +56,7 @@ fn drawn_pins(n: u64, what: u64) -> u8 {
 }
 
 // Three in four are narrow, the others have up to 64 columns; 6 and 64 are the most frequent.
-fn drawn_length(n: u64) -> u8 {
+fn drawn_columns(n: u64) -> u8 {
     if draw(n, 4, 0, 0, 3) != 0 {
         return smaller(draw(n, 5, 0, 1, 8), 6);
     }
@@ -70,40 +67,51 @@ fn smaller(a: u8, b: u8) -> u8 {
     if a < b { a } else { b }
 }
 
-fn narrow(plan: Plan) -> bool {
-    plan.length <= 6
-}
-
-// Puts the terminals into the list, top before bottom.
-pub fn write_terminals(n: u64, plan: Plan, terminals: &mut [u64]) {
-    let end = pins(plan);
+// The sheet of a plan: its terminals, top before bottom.
+pub fn sheet_of(n: u64, plan: Plan) -> Sheet {
+    let none = Record {
+        net: 0,
+        least: 0,
+        greatest: 0,
+        allowed: 0,
+    };
+    let mut terminals = [none; ROOM];
     let mut digits = n / 64;
     let mut t = 0;
-    while t < end {
-        write_terminal(n, plan, t, digits, terminals);
+    while t < ROOM {
+        terminals[t] = terminal_of(n, plan, t, digits);
         digits = digits / 3;
         t += 1;
     }
+    Sheet {
+        columns: plan.columns,
+        top: plan.top,
+        bottom: plan.bottom,
+        terminals,
+    }
 }
 
-fn write_terminal(n: u64, plan: Plan, t: usize, digits: u64, terminals: &mut [u64]) {
-    cells::put_field(terminals, t, 0, net_of(n, t, digits));
-    cells::put_field(terminals, t, 1, least_of(n, plan, t) as u64);
-    cells::put_field(terminals, t, 2, greatest_of(n, plan, t) as u64);
-    cells::put_field(terminals, t, 3, set_of(n, plan, t));
+fn terminal_of(n: u64, plan: Plan, t: usize, digits: u64) -> Record {
+    let range = range_of(n, plan, t);
+    Record {
+        net: net_of(n, t, digits),
+        least: range.least,
+        greatest: range.greatest,
+        allowed: set_of(n, plan, t),
+    }
 }
 
 // One to five nets. On some sheets they differ in the upper byte only.
-fn net_of(n: u64, t: usize, digits: u64) -> u64 {
+fn net_of(n: u64, t: usize, digits: u64) -> u16 {
     let net = if n < REGULAR {
-        cells::low_byte(digits % 3 + 1)
+        (digits % 3) as u8 + 1
     } else {
         draw(n, 7, t, 1, draw(n, 8, 0, 1, 5))
     };
     if draw(n, 9, 0, 0, 3) == 0 {
-        net as u64 * 256
+        net as u16 * 256
     } else {
-        net as u64
+        net as u16
     }
 }
 
@@ -120,30 +128,28 @@ fn range_kind(n: u64, t: usize) -> u8 {
     }
 }
 
-fn first_of_side(plan: Plan, t: usize) -> bool {
-    t == 0 || t == plan.top as usize
-}
-
-fn least_of(n: u64, plan: Plan, t: usize) -> u8 {
-    if first_of_side(plan, t) {
-        return 0;
+fn range_of(n: u64, plan: Plan, t: usize) -> Range {
+    if t == 0 || t == plan.top as usize {
+        return Range {
+            least: 0,
+            greatest: 0,
+        };
     }
-    if range_kind(n, t) == 0 {
-        return 1;
+    let kind = range_kind(n, t);
+    if kind == 0 {
+        return Range {
+            least: 1,
+            greatest: 255,
+        };
     }
-    draw(n, 12, t, 1, if narrow(plan) { 3 } else { 30 })
-}
-
-fn greatest_of(n: u64, plan: Plan, t: usize) -> u8 {
-    if first_of_side(plan, t) {
-        return 0;
-    }
-    let least = least_of(n, plan, t);
-    match range_kind(n, t) {
+    let narrow = plan.columns <= 6;
+    let least = draw(n, 12, t, 1, if narrow { 3 } else { 30 });
+    let greatest = match kind {
         1 => least,
-        2 => draw(n, 13, t, least, if narrow(plan) { 4 } else { 40 }),
+        2 => draw(n, 13, t, least, if narrow { 4 } else { 40 }),
         _ => 255,
-    }
+    };
+    Range { least, greatest }
 }
 
 // 0: full, 1: about half the columns, 2: at most four, 3: one, and sometimes none.
@@ -158,8 +164,8 @@ fn set_kind(n: u64, plan: Plan, t: usize) -> u8 {
     } else {
         common
     };
-    let most = if narrow(plan) { 6 } else { 2 };
-    if most < pins(plan) && kind < 2 {
+    let most = if plan.columns <= 6 { 6 } else { 2 };
+    if most < plan.top as u16 + plan.bottom as u16 && kind < 2 {
         2
     } else {
         kind
@@ -168,8 +174,8 @@ fn set_kind(n: u64, plan: Plan, t: usize) -> u8 {
 
 fn set_of(n: u64, plan: Plan, t: usize) -> u64 {
     match set_kind(n, plan, t) {
-        0 => full(plan.length),
-        1 => full(plan.length) & bits(n, 16, t),
+        0 => full_set(plan.columns),
+        1 => full_set(plan.columns) & bits(n, 16, t),
         2 => few(n, plan, t),
         _ => if draw(n, 17, t, 0, 19) == 0 {
             0
@@ -187,25 +193,14 @@ fn few(n: u64, plan: Plan, t: usize) -> u64 {
     a | b | c | d
 }
 
-// The columns 1 to L.
-fn full(length: u8) -> u64 {
-    if length == 0 {
-        return 0;
-    }
-    if 64 < length {
-        return 0;
-    }
-    18446744073709551615 >> (64 - length)
-}
-
 // The set of one column, often the first or the last.
 fn drawn_column(n: u64, plan: Plan, t: usize, what: u64) -> u64
     requires { ⌜ what ≤ 99 ⌝ }
 {
     match draw(n, what, t, 0, 9) {
         0 => single(1),
-        1 => single(plan.length),
-        _ => single(draw(n, what + 1, t, 1, plan.length)),
+        1 => single(plan.columns),
+        _ => single(draw(n, what + 1, t, 1, plan.columns)),
     }
 }
 
@@ -218,4 +213,29 @@ pub fn single(column: u8) -> u64 {
         return 0;
     }
     1u64 << (column - 1)
+}
+
+// Writes the sheet's bytes; gives their number.
+pub fn write_sheet(plan: Plan, sheet: Sheet, page: &mut Page) -> usize {
+    let end = enumeration::pins(sheet);
+    let mut t = 0;
+    while t < end {
+        let terminal = sheet.terminals[t];
+        put_record(page, record_place(plan, t), terminal);
+        t += 1;
+    }
+    close(page, plan.columns, plan.top, plan.bottom, plan.bottom_first)
+}
+
+// Which record of the file terminal t has.
+fn record_place(plan: Plan, t: usize) -> usize {
+    let p = plan.top as usize;
+    if !plan.bottom_first {
+        return t;
+    }
+    if t < p {
+        t + plan.bottom as usize
+    } else {
+        t - p
+    }
 }

@@ -1,22 +1,17 @@
 // Two searches by one call, in marked buffers.
-use crate::show;
+
+use buffers::first_bytes;
+use buffers::first_cells;
+use fixtures::PAGE;
+use fixtures::Page;
+use fixtures::front;
+use search::Both;
 use search::Searched;
-ghost use mathlib.Core.Path.{_≡_};
-ghost use Prim.Native.Nat.{_≤_};
 
 // The columns of a sheet's four terminals and the work cells of six columns, and some behind.
 const BYTES: usize = 8;
 
 const CELLS: usize = 450;
-
-pub type Columns = [u8; BYTES];
-
-type Cells = [u16; CELLS];
-
-// A mark is no column and not 0, so a write over it shows.
-const BYTE_MARK: u8 = 200;
-
-const CELL_MARK: u16 = 40000;
 
 // What the rules say of the two searches.
 pub enum Rule {
@@ -25,101 +20,104 @@ pub enum Rule {
     Nothing,
 }
 
-// The work cells that a sheet needs, and the column bytes and work cells that its search is lent.
-pub struct Buffers {
+// A form of sheet A: L, every terminal's set, the later ones' greatest distance, and the order of its sections. Then the
+// work cells that it needs, and the column bytes and the work cells that its search is lent.
+pub struct Form {
+    columns: u8,
+    set: u64,
+    greatest: u8,
+    bottom_first: bool,
     needed: usize,
     bytes: usize,
     cells: usize,
 }
 
-pub fn lent(needed: usize, bytes: usize, cells: usize) -> Buffers
-    ensures { λ r. ⌜ (r .bytes ≡ bytes) × (r .cells ≡ cells) ⌝ }
-{
-    Buffers {
+// A form in longer buffers than it needs.
+pub fn sheet_a(columns: u8, set: u64, greatest: u8, bottom_first: bool, needed: usize) -> Form {
+    Form {
+        columns,
+        set,
+        greatest,
+        bottom_first,
         needed,
-        bytes,
-        cells,
+        bytes: 6,
+        cells: std::num::wrapping_add_usize(needed, 3),
     }
 }
 
-// Longer buffers than the sheet needs.
-pub fn longer(needed: usize) -> Buffers
-    requires { ⌜ needed ≤ 441 ⌝ }
-    ensures { λ r. ⌜ (r .bytes ≤ 8) × (r .cells ≤ 450) ⌝ }
-{
-    lent(needed, 6, needed + 3)
+pub fn in_buffers(form: Form, bytes: usize, cells: usize) -> Form {
+    let mut other = form;
+    other.bytes = bytes;
+    other.cells = cells;
+    other
 }
 
-pub fn pair(a: &[u8], first: Buffers, b: &[u8], second: Buffers, rule: Rule)
-    requires { ⌜ (first .bytes ≤ 8) × (first .cells ≤ 450) × (second .bytes ≤ 8) × (second .cells ≤ 450) ⌝ }
-{
-    let mut c = [BYTE_MARK; BYTES];
-    let mut u = [CELL_MARK; CELLS];
-    let mut d = [BYTE_MARK; BYTES];
-    let mut v = [CELL_MARK; CELLS];
-    let first_bytes = first.bytes;
-    let first_cells = first.cells;
-    let second_bytes = second.bytes;
-    let second_cells = second.cells;
-    let both = search::search_both(
-        a,
-        &mut c[..first_bytes],
-        &mut u[..first_cells],
-        b,
-        &mut d[..second_bytes],
-        &mut v[..second_cells],
-    );
+pub fn pair(title: &[u8], first: Form, second: Form, rule: Rule) {
+    let mut c = [0u8; BYTES];
+    let mut u = [0u16; CELLS];
+    let mut d = [0u8; BYTES];
+    let mut v = [0u16; CELLS];
+    buffers::mark(&mut c, &mut u);
+    buffers::mark(&mut d, &mut v);
+    let both = search_both(first, &mut c, &mut u, second, &mut d, &mut v);
     let one = both.first;
     let two = both.second;
-    show::answer(b"  first: ", one, &c);
-    show::answer(b"  second: ", two, &d);
-    compare(rule, one, two);
-    let first_left = left(one, first.needed, &c, &u);
-    let second_left = left(two, second.needed, &d, &v);
-    show::yes_or_no(b"  buffers as the rules say: ", first_left && second_left);
+    printing::text(title);
+    let first_left = answer(b"  first: ", one, first, &c, &u);
+    let second_left = answer(b"  second: ", two, second, &d, &v);
+    compare(rule, both);
+    printing::yes_or_no(b"  buffers as the rules say: ", first_left && second_left);
 }
 
-fn compare(rule: Rule, first: Searched, second: Searched) {
-    let found = is_found(first) && is_found(second);
+// Searches both forms in the first parts of the buffers.
+fn search_both(
+    first: Form,
+    c: &mut [u8],
+    u: &mut [u16],
+    second: Form,
+    d: &mut [u8],
+    v: &mut [u16],
+) -> Both {
+    let mut page = [0u8; PAGE];
+    let mut other = [0u8; PAGE];
+    let n = write(first, &mut page);
+    let m = write(second, &mut other);
+    search::search_both(
+        front(&page, n),
+        first_bytes(c, first.bytes),
+        first_cells(u, first.cells),
+        front(&other, m),
+        first_bytes(d, second.bytes),
+        first_cells(v, second.cells),
+    )
+}
+
+fn write(form: Form, page: &mut Page) -> usize {
+    fixtures::sheet_a(
+        page,
+        form.columns,
+        form.set,
+        form.greatest,
+        form.bottom_first,
+    )
+}
+
+// A search's line; whether it left its buffers as the rules say.
+fn answer(name: &[u8], answer: Searched, form: Form, columns: &[u8], work: &[u16]) -> bool {
+    let refusal = search::number_of(answer);
+    printing::outcome(name, refusal, search::density_of(answer) as u64, columns, 4);
+    buffers::left(refusal, 4, form.needed, columns, work)
+}
+
+fn compare(rule: Rule, both: Both) {
+    let first = both.first;
+    let second = both.second;
+    let found = search::number_of(first) == 0 && search::number_of(second) == 0;
     let d = search::density_of(first);
     let e = search::density_of(second);
     match rule {
-        Rule::NoHigher => show::yes_or_no(b"  the second no higher: ", found && e <= d),
-        Rule::Same => show::yes_or_no(b"  the same density: ", found && e == d),
-        Rule::Nothing => show::text(b"  no rule for the two densities\n"),
+        Rule::NoHigher => printing::yes_or_no(b"  the second no higher: ", found && e <= d),
+        Rule::Same => printing::yes_or_no(b"  the same density: ", found && e == d),
+        Rule::Nothing => printing::text(b"  no rule for the two densities\n"),
     }
-}
-
-fn is_found(answer: Searched) -> bool {
-    search::number_of(answer) == 0
-}
-
-// Whether a search with this answer left its buffers as the rules say.
-fn left(answer: Searched, needed: usize, columns: &Columns, work: &Cells) -> bool {
-    match answer {
-        Searched::Found(_) => bytes_marked(columns, 4) && cells_left(work, needed),
-        Searched::NoAssignment => bytes_marked(columns, 0) && cells_left(work, needed),
-        _ => bytes_marked(columns, 0) && cells_left(work, 0),
-    }
-}
-
-// Whether the bytes behind the written ones have their marks.
-fn bytes_marked(columns: &Columns, written: usize) -> bool {
-    for k in written..BYTES {
-        if columns[k] != BYTE_MARK {
-            return false;
-        }
-    }
-    true
-}
-
-// Whether the first cells are 0 and the others have their marks.
-fn cells_left(work: &Cells, cleared: usize) -> bool {
-    for k in 0..CELLS {
-        let wanted = if k < cleared { 0 } else { CELL_MARK };
-        if work[k] != wanted {
-            return false;
-        }
-    }
-    true
 }

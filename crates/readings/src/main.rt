@@ -1,5 +1,4 @@
 // Walks sheets by a reader, from the first step to two steps past the end, and prints what each step finds.
-use soundness::Checked;
 
 mod show;
 
@@ -14,25 +13,16 @@ fn read(s: &[u8], steps: usize) {
     }
 }
 
-// Terminal number 1, from 0, by the call with plain parameters.
-fn second(s: &[u8]) {
-    show::text(b"  number 1:");
+// A sheet: whether it is sound, its steps, and terminal number 1, from 0, by the call with plain parameters.
+fn walk(name: &[u8], s: &[u8], steps: usize) {
+    printing::verdict(name, b": sound", s);
+    read(s, steps);
+    printing::text(b"  number 1:");
     show::step(reader::read_at(s, 1));
 }
 
-// A sheet: whether it is sound, its steps, and one of them by its number.
-fn walk(name: &[u8], s: &[u8], steps: usize) {
-    show::text(name);
-    match soundness::check(s) {
-        Checked::Sound => show::text(b": sound\n"),
-        Checked::Refused(why) => show::refused(why),
-    }
-    read(s, steps);
-    second(s);
-}
-
-// Sheet A: two terminals a side.
-fn sheet_a() {
+fn main() {
+    // two terminals a side
     walk(
         b"sheet A",
         b"\x01\x00\x00\x00\x07\x00\x00\x00\x00\x00\x00\x00\
@@ -42,10 +32,7 @@ fn sheet_a() {
           \x00\x00\x02\x00\x18\x00\x02\x00\x03\x00CP",
         6,
     );
-}
-
-// The file has B 1, T 1, T 2; the walk goes T 1, T 2, B 1.
-fn bottom_first() {
+    // the file has B 1, T 1, T 2; the walk goes T 1, T 2, B 1
     walk(
         b"bottom section first",
         b"\x09\x00\x00\x00\x01\x00\x00\x00\x00\x00\x00\x80\
@@ -54,20 +41,14 @@ fn bottom_first() {
           \x0c\x00\x02\x00\x00\x00\x01\x00\x40\x00CP",
         5,
     );
-}
-
-// One bottom terminal, with the empty set.
-fn no_top() {
+    // one bottom terminal, with the empty set
     walk(
         b"no top terminals",
         b"\x05\x00\x00\x00\x00\x00\x00\x00\x00\x00\x00\x00\
           \x00\x00\x00\x00\x00\x00\x01\x00\x01\x00CP",
         3,
     );
-}
-
-// Only the last terminal breaks a rule.
-fn refused() {
+    // only the last terminal breaks a rule
     walk(
         b"sheet A with column 4 in its last set",
         b"\x01\x00\x00\x00\x07\x00\x00\x00\x00\x00\x00\x00\
@@ -77,11 +58,4 @@ fn refused() {
           \x00\x00\x02\x00\x18\x00\x02\x00\x03\x00CP",
         2,
     );
-}
-
-fn main() {
-    sheet_a();
-    bottom_first();
-    no_top();
-    refused();
 }

@@ -1,25 +1,8 @@
 // What a step finds, in a line of text.
-use format::Side;
-use libc::STDOUT_FILENO;
+use printing::number;
+use printing::text;
 use sheet::Step;
 use sheet::Visit;
-use terminal::Record;
-use terminal::Refusal;
-
-pub fn text(t: &[u8]) {
-    io::write_all(STDOUT_FILENO, t);
-}
-
-// A name and its number.
-fn field(name: &[u8], n: u64) {
-    text(name);
-    io::print_decimal(STDOUT_FILENO, n);
-}
-
-pub fn refused(why: Refusal) {
-    field(b": refused ", terminal::number_of(why) as u64);
-    text(b"\n");
-}
 
 pub fn step(found: Step) {
     match found {
@@ -29,23 +12,13 @@ pub fn step(found: Step) {
 }
 
 fn visit(v: Visit) {
+    text(b"  ");
     let side = v.side;
-    match side {
-        Side::Top => text(b"  T"),
-        Side::Bottom => text(b"  B"),
-    }
-    field(b" ", v.place as u64);
+    printing::place(side, v.place as u64);
     let terminal = v.terminal;
-    record(terminal);
+    printing::record(terminal);
+    columns(terminal.allowed);
     text(b"\n");
-}
-
-fn record(r: Record) {
-    field(b" net ", r.net as u64);
-    field(b" least ", r.least as u64);
-    field(b" greatest ", r.greatest as u64);
-    text(b" allowed");
-    columns(r.allowed);
 }
 
 // The columns of a set.
@@ -57,7 +30,7 @@ fn columns(set: u64) {
     let mut c: u64 = 1;
     while c <= 64 {
         if rest % 2 == 1 {
-            field(b" ", c);
+            number(b" ", c);
         }
         rest = rest / 2;
         c += 1;

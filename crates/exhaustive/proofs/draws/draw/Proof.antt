@@ -7,11 +7,19 @@ use borrow.Author.Needs.{needs}
 use Rattle.exhaustive.proofs.draws.draw.Statement.{statement}
 use Rattle.exhaustive.proofs.draws.draw.Tie as tie
 
+cast-result : tie.Need-cast-result
+cast-result c =
+    let low = c .before .before .args .low in
+    let high = c .before .before .args .high in
+    let x = c .bits .result in
+    let h : x % (high - low + 1) < high - low + 1 = mod-lt x (omega arith) in
+    omega arith
+
 add-result : tie.Need-add-result
 add-result c =
-    let low = c .before .before .before .args .low in
-    let high = c .before .before .before .args .high in
-    let x = c .before .bits .result in
+    let low = c .before .before .args .low in
+    let high = c .before .before .args .high in
+    let x = c .bits .result in
     let h : x % (high - low + 1) < high - low + 1 = mod-lt x (omega arith) in
     omega arith
 
@@ -25,6 +33,6 @@ draw-spec =
     (λ c. search needs)
     (λ c κs. search needs)
     (λ c. search needs)
-    (λ c κs. search needs)
+    cast-result
     add-result
     (λ c. search needs))

@@ -1,15 +1,15 @@
 -- `exhaustive::measures::all_allowed` is safe and ends: a turn for each terminal.
 -- Assumes nothing.
-use Prim.Native.Nat.{_-_}
 use borrow.Author.Needs.{needs}
+use Prim.Native.Nat.{_-_}
 use Rattle.exhaustive.proofs.measures.all_allowed.Statement.{statement}
 use Rattle.exhaustive.proofs.measures.all_allowed.Tie as tie
 
 abbrev Inv-loop : tie.InvT-loop
-Inv-loop terminals list end t₀ t = Unit {0}
+Inv-loop sheet list end t₀ t = Unit {0}
 
 abbrev μ-loop : tie.MeasureT-loop
-μ-loop terminals list end t₀ t = end - t
+μ-loop sheet list end t₀ t = end - t
 
 pub all-allowed-spec : {M : Type 1} → statement M
 all-allowed-spec =
@@ -19,8 +19,9 @@ all-allowed-spec =
     μ-loop
     (λ c κs. search needs)
     (λ c. search needs)
-    (λ c κs. search needs)
-    (λ c κs. search needs)
+    (λ c. search needs)
+    (λ c. search needs)
+    (λ c. search needs)
     (λ c κs. search needs)
     (λ c. search needs)
     (λ c. search needs)

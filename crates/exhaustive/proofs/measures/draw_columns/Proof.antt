@@ -1,17 +1,15 @@
--- `exhaustive::measures::draw_columns` is safe and ends: a turn for each terminal. The list keeps its length.
+-- `exhaustive::measures::draw_columns` is safe and ends: a turn for each terminal.
 -- Assumes nothing.
-use Prim.Native.Nat.{_-_}
-use mathlib.Core.Path.{_≡_}
-use lib.ListN.{length}
 use borrow.Author.Needs.{needs}
+use Prim.Native.Nat.{_-_}
 use Rattle.exhaustive.proofs.measures.draw_columns.Statement.{statement}
 use Rattle.exhaustive.proofs.measures.draw_columns.Tie as tie
 
 abbrev Inv-loop : tie.InvT-loop
-Inv-loop n plan list₀ end t₀ list t = length list ≡ length list₀
+Inv-loop n sheet end list₀ t₀ list t = Unit {0}
 
 abbrev μ-loop : tie.MeasureT-loop
-μ-loop n plan list₀ end t₀ list t = end - t
+μ-loop n sheet end list₀ t₀ list t = end - t
 
 pub draw-columns-spec : {M : Type 1} → statement M
 draw-columns-spec =
@@ -21,7 +19,6 @@ draw-columns-spec =
     μ-loop
     (λ c κs. search needs)
     (λ c. search needs)
-    (λ c κs. search needs)
     (λ c κs. search needs)
     (λ c. search needs)
     (λ c. search needs)

@@ -1,15 +1,15 @@
 -- `exhaustive::measures::measure_all` is safe and ends: a turn for each list.
 -- Assumes nothing.
-use Prim.Native.Nat.{_-_}
 use borrow.Author.Needs.{needs}
+use Prim.Native.Nat.{_-_}
 use Rattle.exhaustive.proofs.measures.measure_all.Statement.{statement}
 use Rattle.exhaustive.proofs.measures.measure_all.Tie as tie
 
 abbrev Inv-loop : tie.InvT-loop
-Inv-loop case terminals choices s assignments₀ wrong₀ k₀ assignments wrong k = Unit {0}
+Inv-loop case page all₀ k₀ all k = Unit {0}
 
 abbrev μ-loop : tie.MeasureT-loop
-μ-loop case terminals choices s assignments₀ wrong₀ k₀ assignments wrong k = 8 - k
+μ-loop case page all₀ k₀ all k = 8 - k
 
 pub measure-all-spec : {M : Type 1} → statement M
 measure-all-spec =
@@ -18,7 +18,6 @@ measure-all-spec =
     Inv-loop
     μ-loop
     (λ c. search needs)
-    (λ c κs. search needs)
     (λ c κs. search needs)
     (λ c κs. search needs)
     (λ c. search needs)

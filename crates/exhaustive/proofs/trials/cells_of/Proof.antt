@@ -15,16 +15,16 @@ square a b h g =
 
 all : tie.Need-returns
 all c =
-    let plan = c .before .before .before .before .args .plan in
+    let sheet = c .before .before .before .before .args .sheet in
     mul-le-mul
-    (square (plan .top) (plan .bottom) (omega arith) (omega arith))
-    (square (plan .length) (plan .length) (omega arith) (omega arith))
+    (square (sheet .top) (sheet .bottom) (omega arith) (omega arith))
+    (square (sheet .columns) (sheet .columns) (omega arith) (omega arith))
 
 mul-plane : tie.Need-mul-plane
-mul-plane c = omega (arith, square (c .before .before .args .plan .length) (c .before .before .args .plan .length) (omega arith) (omega arith))
+mul-plane c = omega (arith, square (c .before .before .args .sheet .columns) (c .before .before .args .sheet .columns) (omega arith) (omega arith))
 
 mul-result : tie.Need-mul-result
-mul-result c = omega (arith, square (c .before .before .before .before .args .plan .top) (c .before .before .before .before .args .plan .bottom) (omega arith) (omega arith))
+mul-result c = omega (arith, square (c .before .before .before .before .args .sheet .top) (c .before .before .before .before .args .sheet .bottom) (omega arith) (omega arith))
 
 mul-result-2 : tie.Need-mul-result-2
 mul-result-2 c = omega (arith, all c)

@@ -1,30 +1,15 @@
--- `sheet_cases::show::walk` is safe and ends. Any cursor may step, so the invariant says nothing; the measure is the steps left.
+-- `sheet_cases::show::walk` is safe and ends: a turn for each step.
 -- Assumes nothing.
+use borrow.Author.Needs.{needs}
 use Prim.Native.Nat.{_-_}
-use native.Mathlib.Omega.{arith}
 use Rattle.sheet_cases.proofs.show.walk.Statement.{statement}
 use Rattle.sheet_cases.proofs.show.walk.Tie as tie
 
 abbrev Inv-loop : tie.InvT-loop
-Inv-loop s steps c₀ counter₀ c counter = Unit {0}
+Inv-loop s steps c₀ k₀ t5 c k = Unit {0}
 
 abbrev μ-loop : tie.MeasureT-loop
-μ-loop s steps c₀ counter₀ c counter = steps - counter
-
-new-requires : tie.Need-new-requires Inv-loop μ-loop
-new-requires c κs = tt
-
-loop-holds : tie.Need-loop-holds Inv-loop μ-loop
-loop-holds c = tt
-
-indented-step-requires : tie.Need-indented-step-requires Inv-loop μ-loop
-indented-step-requires c κs = tt
-
-loop-again : tie.Need-loop-again Inv-loop μ-loop
-loop-again c = tt
-
-returns : tie.Need-returns Inv-loop μ-loop
-returns c = tt
+μ-loop s steps c₀ k₀ t5 c k = steps - k
 
 pub walk-spec : {M : Type 1} → statement M
 walk-spec =
@@ -32,10 +17,12 @@ walk-spec =
     (tie.spec
     Inv-loop
     μ-loop
-    new-requires
-    loop-holds
-    indented-step-requires
-    (λ c. omega arith)
-    (λ c. omega arith)
-    loop-again
-    returns)
+    (λ c κs. search needs)
+    (λ c. search needs)
+    (λ c. search needs)
+    (λ c κs. search needs)
+    (λ c κs. search needs)
+    (λ c. search needs)
+    (λ c. search needs)
+    (λ c. search needs)
+    (λ c. search needs))
