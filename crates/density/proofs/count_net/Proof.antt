@@ -8,12 +8,13 @@ use Rattle.density.proofs.count_net.Tie as tie
 
 returns : tie.Need-returns
 returns c =
-    let a = c .before .before .before .before .before .before .before .before .before .before .before .before .args in
-    let s = c .before .before .before .before .before .before .before .before .span-of in
+    let at-add-span = c .before .before in
+    let at-if1 = at-add-span .before .before .before .before in
+    let at-span-of = at-if1 .before .before in
+    let a = at-span-of .before .before .before .before .args in
+    let s = at-span-of .span-of in
     counted (pinsOf (a .nets .now) (a .columns .now)) (a .net) (s .result) (s .ensures) (a .counts .now)
-    (c .before .before .add-span .last .0)
-    (c .before .before .before .before .before .before .if1 .taken)
-    (c .before .before .add-span .ensures)
+    (at-add-span .add-span .last .0) (at-if1 .if1 .taken) (at-add-span .add-span .ensures)
 
 returns-2 : tie.Need-returns-2
 returns-2 c =

@@ -27,16 +27,19 @@ loop-holds c =
 
 count-net-requires : tie.Need-count-net-requires Inv-loop μ-loop
 count-net-requires c κs =
-    let s = c .before .before .before .before .before .before .before .before .before .before in
-    let l = c .before .before .before .before .before .before .loop in
+    let at-loop = c .before .before .before .before .before .before in
+    let s = at-loop .before .before .before .before in
+    let l = at-loop .loop in
     (s .pre .0, l .inv .0, counts-small (s .args .nets .now) (s .args .columns .now) (l .i) (l .counts) (l .inv .1) (s .pre .1))
 
 loop-again : tie.Need-loop-again Inv-loop μ-loop
 loop-again c =
-    let a = c .before .before .before .before .before .before .before .before .args in
-    let l = c .before .before .before .before .loop in
+    let at-loop-test = c .before .before .before in
+    let at-loop = at-loop-test .before in
+    let a = at-loop .before .before .before .before .args in
+    let l = at-loop .loop in
     let o = c .before .occurs in
-    let inside = c .before .before .before .loop-test .taken in
+    let inside = at-loop-test .loop-test .taken in
     ⊎-elim
     (λ w. rw (w .6) (
       w .3 .kept .1 .1 .1 .0 ∙ l .inv .0,

@@ -22,8 +22,9 @@ returns c =
 
 sub-read-word : tie.Need-sub-read-word
 sub-read-word c =
-    c .before .before .before .before .before .before .before .before .pre .1 .before
-    (omega (arith, c .before .before .before .before .if1 .left))
+    let at-if1 = c .before .before .before .before in
+    let start = at-if1 .before .before .before .before in
+    start .pre .1 .before (omega (arith, at-if1 .if1 .left))
 
 returns-2 : tie.Need-returns-2
 unfolding stepped

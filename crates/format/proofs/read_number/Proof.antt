@@ -27,10 +27,10 @@ loop-holds c =
 
 mul-value : tie.Need-mul-value Inv-loop μ-loop
 mul-value c =
-    let i = c .before .loop .inv in
-    let b : c .before .loop .value * 256 + 0 < 2 ^ 64 =
-    byte-fits (c .before .before .args .n) (c .before .loop .left) (c .loop-test .taken) (i .0) (c .before .before .pre .1) (i .2)
-    (lit< tt) in
+    let start = c .before .before in
+    let l = c .before .loop in
+    let b : l .value * 256 + 0 < 2 ^ 64 =
+    byte-fits (start .args .n) (l .left) (c .loop-test .taken) (l .inv .0) (start .pre .1) (l .inv .2) (lit< tt) in
     omega arith
 
 -- the byte that is read
@@ -43,11 +43,9 @@ cast-value c = omega (arith, c .shared-slice-known .given (c .before .before .be
 
 add-value-2 : tie.Need-add-value-2 Inv-loop μ-loop
 add-value-2 c =
-    let i = c .before .before .loop .inv in
-    record {
-      fits = byte-fits (c .before .before .before .args .n) (c .before .before .loop .left) (c .before .loop-test .taken) (i .0)
-          (c .before .before .before .pre .1) (i .2) (byte c);
-    }
+    let start = c .before .before .before in
+    let l = c .before .before .loop in
+    record { fits = byte-fits (start .args .n) (l .left) (c .before .loop-test .taken) (l .inv .0) (start .pre .1) (l .inv .2) (byte c) }
 
 loop-again : tie.Need-loop-again Inv-loop μ-loop
 loop-again c =

@@ -25,10 +25,12 @@ returns c =
 
 returns-2 : tie.Need-returns-2
 returns-2 c =
-    let s = c .before .before .before .before .before .before .before .before .before in
+    let at-if1 = c .before .before in
+    let at-all-allowed = at-if1 .before in
+    let s = at-all-allowed .before .before .before .before .before .before in
     let a = s .args in
     bottom-refused (a .l) (terminalsIn (a .top .now)) (terminalsIn (a .bottom .now)) (a .columns .now) (a .p) (s .pre .tops)
-    (sym (c .before .before .before .all-allowed .ensures) ∙ not-false _ (c .before .before .if1 .left))
+    (sym (at-all-allowed .all-allowed .ensures) ∙ not-false _ (at-if1 .if1 .left))
     (sym (c .before .all-allowed2 .ensures) ∙ not-true _ (c .if2 .taken))
 
 out-of-range-requires : tie.Need-out-of-range-requires
@@ -37,11 +39,15 @@ out-of-range-requires c κs =
 
 returns-3 : tie.Need-returns-3
 returns-3 c =
-    let s = c .before .before .before .before .before .before .before .before .before .before .before in
+    let at-if2 = c .before .before in
+    let at-all-allowed2 = at-if2 .before in
+    let at-if1 = at-all-allowed2 .before in
+    let at-all-allowed = at-if1 .before in
+    let s = at-all-allowed .before .before .before .before .before .before in
     let a = s .args in
     distance-refused (a .l) (terminalsIn (a .top .now)) (terminalsIn (a .bottom .now)) (a .columns .now) (a .p) (s .pre .tops)
-    (sym (c .before .before .before .before .before .all-allowed .ensures) ∙ not-false _ (c .before .before .before .before .if1 .left))
-    (sym (c .before .before .before .all-allowed2 .ensures) ∙ not-false _ (c .before .before .if2 .left))
+    (sym (at-all-allowed .all-allowed .ensures) ∙ not-false _ (at-if1 .if1 .left))
+    (sym (at-all-allowed2 .all-allowed2 .ensures) ∙ not-false _ (at-if2 .if2 .left))
     (c .before .out-of-range .result)
     (c .before .out-of-range .ensures)
     (c .if3 .taken)
@@ -52,8 +58,7 @@ returns-4 c =
     let at-all-allowed2 = at-if2 .before in
     let at-if1 = at-all-allowed2 .before in
     let at-all-allowed = at-if1 .before in
-    let at-before = at-all-allowed .before .before .before .before .before in
-    let s = at-before .before in
+    let s = at-all-allowed .before .before .before .before .before .before in
     let a = s .args in
     measured (a .l) (terminalsIn (a .top .now)) (terminalsIn (a .bottom .now)) (a .columns .now) (a .p) (s .pre .tops)
     (sym (at-all-allowed .all-allowed .ensures) ∙ not-false _ (at-if1 .if1 .left))

@@ -17,8 +17,9 @@ fill-nets-requires c κs = length-take-le _ _ (omega arith) ∙ c .before .befor
 
 returns : tie.Need-returns
 returns c =
-    let s = c .before .before .before .before .before .before .before .before .before .before .before in
-    let one = c .before .before .before .before .before .before .fill-nets in
+    let at-fill-nets = c .before .before .before .before .before .before in
+    let s = at-fill-nets .before .before .before .before .before in
+    let one = at-fill-nets .fill-nets in
     let two = c .before .before .fill-nets2 in
     nets-both (terminalsIn (s .args .top .now)) (terminalsIn (s .args .bottom .now)) (s .args .nets .now)
     (one .last .1 .0)

@@ -33,15 +33,18 @@ places-of-requires c κs =
 
 returns-2 : tie.Need-returns-2
 returns-2 c =
-    let a = c .before .before .before .before .before .before .before .before .before .before .before .before .args in
+    let at-places-of = c .before .before .before .before in
+    let at-if1 = at-places-of .before .before .before in
+    let at-occurs = at-if1 .before in
+    let a = at-occurs .before .before .before .before .args in
     let ns = a .nets .now in
     let n = getD ns (a .m) 0 in
-    let s = c .before .before .before .before .before .before .before .before .occurs in
+    let s = at-occurs .occurs in
     put-one (take (a .p) ns) (drop (a .p) ns) ns (a .m) (a .places .now) _ (a .k) (s .result)
-    (c .before .before .before .before .places-of .result)
+    (at-places-of .places-of .result)
     (s .ensures)
-    (c .before .before .before .before .before .before .before .if1 .left)
-    (c .before .before .before .before .places-of .ensures
+    (at-if1 .if1 .left)
+    (at-places-of .places-of .ensures
     ∙ ap (λ (bottoms : List ℕ). placesOf (take (a .p) ns) bottoms n) (part-rest ns (a .p)))
     (omega arith)
     (c .before .before .write-places .ensures)

@@ -35,13 +35,15 @@ list-net-requires c κs =
 
 loop-again : tie.Need-loop-again Inv-loop μ-loop
 loop-again c =
-    let a = c .before .before .before .before .before .before .before .before .args in
-    let l = c .before .before .before .before .before .loop in
+    let at-loop-test = c .before .before .before .before in
+    let at-loop = at-loop-test .before in
+    let a = at-loop .before .before .before .args in
+    let l = at-loop .loop in
     let put = c .before .before .list-net .ensures in (
       c .before .before .list-net .kept .1 .1 .1 .0 ∙ l .inv .0,
       omega arith,
       omega (arith, put .count, put-count (a .nets .now) (l .m)),
-      put-more _ _ (a .nets .now) (l .m) (l .places) _ (l .k) _ _ (c .before .before .before .before .loop-test .taken) put (l .inv .3),
+      put-more _ _ (a .nets .now) (l .m) (l .places) _ (l .k) _ _ (at-loop-test .loop-test .taken) put (l .inv .3),
       put-rest _ _ (a .nets .now) (l .m) _ (l .places) _ (l .k) _ put (l .inv .4),
     )
 

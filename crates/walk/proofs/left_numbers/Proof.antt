@@ -16,10 +16,9 @@ returns c =
     λ y h. bit-zero y ∙ no-lefts (a .rules .now) (a .q) (a .m) y (c .if1 .taken)
 
 stands-at-requires : tie.Need-stands-at-requires
-stands-at-requires c κs = (
-  c .before .before .before .pre .4,
-  λ h. omega (arith, c .before .before .before .pre .5 h, c .if1 .left, c .before .before .before .pre .2),
-)
+stands-at-requires c κs =
+    let start = c .before .before .before in
+    (start .pre .4, λ h. omega (arith, start .pre .5 h, c .if1 .left, start .pre .2))
 
 back-requires : tie.Need-back-requires
 back-requires c κs =

@@ -29,11 +29,10 @@ loop-holds c =
     let a = start .args in (refl, walks-from (a .p) (a .q) (a .l) (start .pre .1), refl, refl)
 
 choose-requires : tie.Need-choose-requires Inv-loop μ-loop
-choose-requires c κs = (
-  c .before .before .before .before .before .pre .0,
-  c .before .loop .inv .1,
-  omega (arith, c .loop-test .taken, c .before .loop .inv .0),
-)
+choose-requires c κs =
+    let start = c .before .before .before .before .before in
+    let l = c .before .loop in
+    (start .pre .0, l .inv .1, omega (arith, c .loop-test .taken, l .inv .0))
 
 put-requires : tie.Need-put-requires Inv-loop μ-loop
 put-requires c κs =
@@ -43,11 +42,8 @@ put-requires c κs =
 
 go-requires : tie.Need-go-requires Inv-loop μ-loop
 go-requires c κs =
-    omega (
-      arith,
-      c .before .before .before .before .before .loop-test .taken,
-      c .before .before .before .before .before .before .loop .inv .0,
-    )
+    let at-loop-test = c .before .before .before .before .before in
+    omega (arith, at-loop-test .loop-test .taken, at-loop-test .before .loop .inv .0)
 
 sub-left : tie.Need-sub-left Inv-loop μ-loop
 sub-left c = omega (arith, c .before .before .before .before .before .before .loop-test .taken)

@@ -14,18 +14,18 @@ slice-aggregate-write-table c = sym (length-take-le _ _ (c .before .before .befo
 
 slice-aggregate-write-table-2 : tie.Need-slice-aggregate-write-table-2
 slice-aggregate-write-table-2 c =
-    let d = c .before .before .before .before .before .before .before .before in
-    let l = c .before .before .before .before .list-places in
+    let at-list-places = c .before .before .before .before in
+    let start = at-list-places .before .before .before .before in
+    let l = at-list-places .list-places in
     sym (length-take-le (5 * l .result) (l .last .1 .1 .0)
-    (omega (arith, l .ensures .count, l .kept .1 .1 .0, d .pre .0 .top, d .pre .0 .bottom)))
+    (omega (arith, l .ensures .count, l .kept .1 .1 .0, start .pre .0 .top, start .pre .0 .bottom)))
 
 write-table-requires : tie.Need-write-table-requires
 write-table-requires c κs =
-    let d = c .before .before .before .before .before .before .before .before .before in (
-      sides-listed (d .args .nets .now) (d .args .p) _ (d .pre .0)
-          (c .before .before .before .before .before .list-places .ensures .places),
-      d .pre .1,
-    )
+    let at-list-places = c .before .before .before .before .before in
+    let start = at-list-places .before .before .before .before in
+    let a = start .args in
+    (sides-listed (a .nets .now) (a .p) _ (start .pre .0) (at-list-places .list-places .ensures .places), start .pre .1)
 
 returns : tie.Need-returns
 returns c =

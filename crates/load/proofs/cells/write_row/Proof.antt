@@ -28,8 +28,9 @@ write-cell-requires c κs =
 
 loop-again : tie.Need-loop-again Inv-loop μ-loop
 loop-again c =
-    let d = c .before .before .before .before .before .before .before .before .before .before in
-    let l = c .before .before .before .before .before .loop in (
+    let at-loop = c .before .before .before .before .before in
+    let d = at-loop .before .before .before .before .before in
+    let l = at-loop .loop in (
       omega arith,
       row-more _ _ _ (l .loads) _ _ (l .j) (omega (arith, d .pre .0 .bottom)) (l .inv .1)
           (c .before .before .write-cell .ensures),

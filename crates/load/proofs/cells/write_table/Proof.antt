@@ -27,8 +27,9 @@ write-row-requires c κs =
 
 loop-again : tie.Need-loop-again Inv-loop μ-loop
 loop-again c =
-    let d = c .before .before .before .before .before .before .before .before .before .before in
-    let l = c .before .before .before .before .before .loop in
+    let at-loop = c .before .before .before .before .before in
+    let d = at-loop .before .before .before .before .before in
+    let l = at-loop .loop in
     (omega arith, table-more _ _ _ (l .loads) _ (l .i) (d .pre .0 .bottom) (l .inv .1) (c .before .before .write-row .ensures))
 
 same-length : tie.Need-same-length Inv-loop μ-loop

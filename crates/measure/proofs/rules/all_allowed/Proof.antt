@@ -32,11 +32,13 @@ turn : (d : tie.After-allows Inv-loop μ-loop)
     sideAllowed (terminalsIn (a .part .now)) (a .columns .now)
     ≡ (d .allows .result && sideAllowed (drop (i + 1) (terminalsIn (a .part .now))) (drop (i + 1) (a .columns .now)))
 turn d =
-    let a = d .before .before .before .before .before .before .before .args in
-    let l = d .before .before .before .before .loop in
+    let at-loop-test = d .before .before .before in
+    let at-loop = at-loop-test .before in
+    let start = at-loop .before .before .before in
+    let a = start .args in
+    let l = at-loop .loop in
     l .inv .1
-    ∙ allowed-more (a .part .now) (a .columns .now) (d .before .before .before .before .before .before .before .pre) (l .i)
-    (d .before .before .before .loop-test .taken)
+    ∙ allowed-more (a .part .now) (a .columns .now) (start .pre) (l .i) (at-loop-test .loop-test .taken)
     (d .before .before .terminal-at .result)
     (d .before .before .terminal-at .ensures)
     ∙ ap (λ (ok : Bool). ok && sideAllowed (drop (l .i + 1) (terminalsIn (a .part .now))) (drop (l .i + 1) (a .columns .now)))

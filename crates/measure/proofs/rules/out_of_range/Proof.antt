@@ -71,13 +71,16 @@ turn : (d : tie.After-in-range Inv-loop μ-loop Inv-scan μ-scan)
     sideKept (terminalsIn part) columns
     ≡ (d .in-range .result && laterKept (drop (i + 1) (terminalsIn part)) (getD columns (i + 1 - 1) 0) (drop (i + 1) columns))
 turn d =
-    let part : List ℕ = d .before .before .before .before .before .before .before .side-at .result .now in
-    let columns : List ℕ = d .before .before .before .before .before .before .side-at2 .result .now in
-    let l = d .before .before .before .before .before .loop in
+    let at-terminal-at = d .before .before .before in
+    let at-loop-test = at-terminal-at .before in
+    let at-loop = at-loop-test .before in
+    let at-sides = at-loop .before in
+    let part : List ℕ = at-sides .before .side-at .result .now in
+    let columns : List ℕ = at-sides .side-at2 .result .now in
+    let l = at-loop .loop in
     l .inv .2
-    ∙ kept-more part columns (same (d .before .before .before .before .before .before)) (l .i)
-    (d .before .before .before .before .loop-test .taken)
-    (d .before .before .before .terminal-at .result) (d .before .before .before .terminal-at .ensures) (getD columns (l .i - 1) 0)
+    ∙ kept-more part columns (same at-sides) (l .i) (at-loop-test .loop-test .taken)
+    (at-terminal-at .terminal-at .result) (at-terminal-at .terminal-at .ensures) (getD columns (l .i - 1) 0)
     ∙ ap (λ (ok : Bool). ok && laterKept (drop (l .i + 1) (terminalsIn part)) (getD columns (l .i + 1 - 1) 0) (drop (l .i + 1) columns))
     (sym (d .in-range .ensures))
 

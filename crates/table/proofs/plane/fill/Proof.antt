@@ -50,11 +50,9 @@ add-at c =
 
 add-i : tie.Need-add-i Inv-loop μ-loop
 add-i c =
-    omega (
-      arith,
-      c .before .before .before .before .loop-test .taken,
-      c .before .before .before .before .before .before .before .before .before .pre .1 .tops,
-    )
+    let at-loop-test = c .before .before .before .before in
+    let start = at-loop-test .before .before .before .before .before in
+    omega (arith, at-loop-test .loop-test .taken, start .pre .1 .tops)
 
 loop-less : tie.Need-loop-less Inv-loop μ-loop
 loop-less c = omega (arith, c .before .before .before .before .loop-test .taken)
