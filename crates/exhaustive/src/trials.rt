@@ -121,15 +121,17 @@ fn show(n: u64, lent: Lent, expected: Expected, r: Searched, list: &[u8], column
     );
 }
 
-// One call; `list` has the columns that it is to write.
+// One call on sheet n; `list` has the columns that it is to write.
 fn call_agrees(
-    case: Case,
+    n: u64,
+    shown: bool,
     lent: Lent,
     expected: Expected,
     page: &Page,
     list: &[u8],
     work: &mut [u16],
 ) -> bool {
+    // the columns of eight terminals, and four to spare
     let mut columns = [0u8; 12];
     buffers::mark_bytes(&mut columns, lent.bytes);
     buffers::mark_cells(work, lent.cells);
@@ -137,15 +139,15 @@ fn call_agrees(
     let bytes = first_bytes(&mut columns, lent.bytes);
     let r = search::search(s, bytes, first_cells(work, lent.cells));
     let good = agrees(lent, expected, r, list, &columns, work);
-    if !good && case.shown {
-        show(case.n, lent, expected, r, list, &columns);
+    if !good && shown {
+        show(n, lent, expected, r, list, &columns);
     }
     good
 }
 
 // The refusals: a sheet cut by a byte, a work buffer that is one too short, and that with a column buffer that is
 // one too short, if there are columns.
-fn refusals_agree(case: Case, lent: Lent, page: &Page, work: &mut [u16]) -> bool {
+fn refusals_agree(n: u64, shown: bool, lent: Lent, page: &Page, work: &mut [u16]) -> bool {
     let cut = Lent {
         size: less(lent.size),
         bytes: lent.bytes,
@@ -164,9 +166,9 @@ fn refusals_agree(case: Case, lent: Lent, page: &Page, work: &mut [u16]) -> bool
     // a trailer without its last byte is too short by itself, and has no mark behind a record
     let short = if lent.bytes == 0 { 1 } else { 2 };
     let both = if lent.bytes == 0 { 10 } else { 9 };
-    let a = call_agrees(case, cut, refusal(short), page, page, work);
-    let b = call_agrees(case, few, refusal(10), page, page, work);
-    let c = call_agrees(case, fewer, refusal(both), page, page, work);
+    let a = call_agrees(n, shown, cut, refusal(short), page, page, work);
+    let b = call_agrees(n, shown, few, refusal(10), page, page, work);
+    let c = call_agrees(n, shown, fewer, refusal(both), page, page, work);
     a && b && c
 }
 
@@ -183,7 +185,7 @@ fn answers_agree(case: Case, lent: Lent, page: &Page, work: &mut [u16]) -> bool
     let best = case.best;
     let list = enumeration::list_of(best.list, case.sheet);
     let expected = answer(best, lent.bytes, lent.cells);
-    call_agrees(case, longer, expected, page, &list, work)
+    call_agrees(case.n, case.shown, longer, expected, page, &list, work)
 }
 
 // Every call on the sheet.
@@ -204,7 +206,7 @@ pub fn try_sheet(n: u64, work: &mut [u16], shown: bool) -> Trial {
         bytes: pins(sheet),
         cells: cells_of(sheet),
     };
-    let refusals = refusals_agree(case, lent, &page, work);
+    let refusals = refusals_agree(n, shown, lent, &page, work);
     let answers = answers_agree(case, lent, &page, work);
     let measured = measures::measure_all(case, &page);
     Trial {
