@@ -12,7 +12,7 @@ use Rattle.format.specs.Parts.{terminalsIn}
 use Rattle.spans.specs.Spans.{pinsOf}
 
 -- a list that is p+q long beside the two sections of a sound sheet of length l
-pub record Laid (top bottom columns : List ℕ) (p l : ℕ) : Type 0 where
+pub record AsksDensity (top bottom columns : List ℕ) (p l : ℕ) : Type 0 where
   pub tops : p ≡ length (terminalsIn top)
   pub long : length columns ≡ p + length (terminalsIn bottom)
   pub few : length columns ≤ 128

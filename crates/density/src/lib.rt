@@ -8,11 +8,11 @@ ghost use lib.ListN.{length, getD, replicate};
 ghost use Rattle.channel.specs.Density.{weight, maximumTo, density};
 ghost use Rattle.sheet.specs.Parts.{sheetIn};
 ghost use Rattle.spans.specs.Spans.{pinsOf};
-ghost use Rattle.density.specs.Counted.{Laid, within, netSpans, Added, Small, countedAt};
+ghost use Rattle.density.specs.Counted.{AsksDensity, within, netSpans, Added, Small, countedAt};
 
 // The density of a list, from the two sections, the top terminals p and the channel's length.
 pub fn list_density(top: &[u8], bottom: &[u8], columns: &[u8], p: usize, l: usize) -> u32
-    requires { ⌜ Laid (now top) (now bottom) (now columns) p l ⌝ }
+    requires { ⌜ AsksDensity (now top) (now bottom) (now columns) p l ⌝ }
     ensures { λ r. ⌜ r ≡ density (sheetIn l (now (top .entry)) (now (bottom .entry))) (now (columns .entry)) ⌝ }
 {
     let n = columns.len();

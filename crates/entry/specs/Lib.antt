@@ -1,2 +1,2 @@
 pub mod Entry
-pub mod Room
+pub mod Asks

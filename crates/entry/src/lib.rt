@@ -20,7 +20,7 @@ ghost use Rattle.arrays.specs.Rules.{pins};
 ghost use Rattle.arrays.specs.Loads.{loadBytes, loadAt};
 ghost use Rattle.bits.specs.Bits.{bitOf};
 ghost use Rattle.entry.specs.Entry.{held, startPart, topPart, bottomPart, bothPart, entry};
-ghost use Rattle.entry.specs.Room.{Room, Sides};
+ghost use Rattle.entry.specs.Asks.{AsksEntry, AsksArrays};
 
 // The table's measures: the rows of a plane, the planes for one i, and the cells of a plane and of those
 // planes.
@@ -79,7 +79,7 @@ fn start(i: usize, j: usize, x: usize) -> u64
 
 // The last column holds a top pin alone.
 fn top(work: &[u16], rules: &[u64], loads: &[u8], grid: Grid, bound: u8, place: Place) -> u64
-    requires { ⌜ Sides (now rules) (now loads) × Room (now work) grid place ⌝ }
+    requires { ⌜ AsksArrays (now rules) (now loads) × AsksEntry (now work) grid place ⌝ }
     ensures { λ r. ⌜ ((y : ℕ) → y < 64 → bitOf r y ≡ topPart (now (rules .entry)) (now (loads .entry)) bound (place .i) (place .j)
         (held (now (work .entry)) (place .at - grid .stride)) (place .x) y) ⌝ }
 {
@@ -103,7 +103,7 @@ fn top(work: &[u16], rules: &[u64], loads: &[u8], grid: Grid, bound: u8, place: 
 
 // A bottom pin alone.
 fn bottom(work: &[u16], rules: &[u64], loads: &[u8], grid: Grid, bound: u8, place: Place) -> u64
-    requires { ⌜ Sides (now rules) (now loads) × Room (now work) grid place ⌝ }
+    requires { ⌜ AsksArrays (now rules) (now loads) × AsksEntry (now work) grid place ⌝ }
     ensures { λ r. ⌜ ((y : ℕ) → y < 64 → bitOf r y ≡ bottomPart (now (rules .entry)) (now (loads .entry)) bound (place .i) (place .j)
         (held (now (work .entry)) (place .at - grid .size)) (place .x) y) ⌝ }
 {
@@ -126,7 +126,7 @@ fn bottom(work: &[u16], rules: &[u64], loads: &[u8], grid: Grid, bound: u8, plac
 
 // Both.
 fn pair(work: &[u16], rules: &[u64], loads: &[u8], grid: Grid, bound: u8, place: Place) -> u64
-    requires { ⌜ Sides (now rules) (now loads) × Room (now work) grid place ⌝ }
+    requires { ⌜ AsksArrays (now rules) (now loads) × AsksEntry (now work) grid place ⌝ }
     ensures { λ r. ⌜ ((y : ℕ) → y < 64 → bitOf r y ≡ bothPart (now (rules .entry)) (now (loads .entry)) bound (place .i) (place .j)
         (held (now (work .entry)) (place .at - (grid .stride + grid .size))) (place .x) y) ⌝ }
 {
@@ -165,7 +165,7 @@ fn pair(work: &[u16], rules: &[u64], loads: &[u8], grid: Grid, bound: u8, place:
 
 // The word of a place.
 pub fn word(work: &[u16], rules: &[u64], loads: &[u8], grid: Grid, bound: u8, place: Place) -> u64
-    requires { ⌜ Sides (now rules) (now loads) × Room (now work) grid place ⌝ }
+    requires { ⌜ AsksArrays (now rules) (now loads) × AsksEntry (now work) grid place ⌝ }
     ensures { λ r. ⌜ ((y : ℕ) → y < 64 → bitOf r y ≡ entry (now (rules .entry)) (now (loads .entry)) bound (place .i) (place .j)
         (held (now (work .entry)) (place .at - grid .stride)) (held (now (work .entry)) (place .at - grid .size))
         (held (now (work .entry)) (place .at - (grid .stride + grid .size))) (place .x) y) ⌝ }

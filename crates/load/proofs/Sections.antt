@@ -10,8 +10,8 @@ use Rattle.channel.specs.Sheet.{Terminal}
 use Rattle.channel.specs.Cut.{nets}
 use Rattle.format.specs.Parts.{terminalsIn}
 use Rattle.nets.specs.Nets.{netsIn}
-use Rattle.places.specs.Places.{TwoSides}
-use Rattle.load.specs.Cuts.{AllLoads}
+use Rattle.places.specs.Places.{AsksPlaces}
+use Rattle.load.specs.Cuts.{LoadsRead}
 
 -- a section has as many nets as terminals
 length-section : (part : List ℕ) → length (netsIn part) ≡ length (terminalsIn part)
@@ -41,10 +41,10 @@ module _ (top bottom : List ℕ) (p q : ℕ) (tops : p ≡ length (terminalsIn t
     pub both-length : p + q ≡ length ns
     both-length = rw both (omega (arith, length-append (netsIn top) (netsIn bottom), top-nets, bottom-nets))
 
-    pub both-sides : length (terminalsIn top) ≤ 64 → length (terminalsIn bottom) ≤ 64 → TwoSides ns p
+    pub both-sides : length (terminalsIn top) ≤ 64 → length (terminalsIn bottom) ≤ 64 → AsksPlaces ns p
     both-sides h k =
         record { top = omega (arith, tops); split = omega (arith, both-length); bottom = omega (arith, both-length, bottoms) }
 
-    pub both-loads : (old new : List ℕ) → AllLoads (take p ns) (drop p ns) old new → AllLoads (netsIn top) (netsIn bottom) old new
+    pub both-loads : (old new : List ℕ) → LoadsRead (take p ns) (drop p ns) old new → LoadsRead (netsIn top) (netsIn bottom) old new
     both-loads old new all =
         rw (both, take-at (netsIn top) (netsIn bottom) p top-nets, drop-at (netsIn top) (netsIn bottom) p top-nets) at all

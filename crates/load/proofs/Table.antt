@@ -14,7 +14,7 @@ use Rattle.arrays.specs.Rules.{pins}
 use Rattle.arrays.specs.Loads.{loadBytes, loadAt, putLoads}
 use Rattle.arrays.proofs.Loads.{length-put-loads, top-put, bottom-put, both-put, load-put-other}
 use Rattle.load.specs.declared.counting.Loads.{Loads}
-use Rattle.load.specs.Cuts.{Cell, AllLoads, Written}
+use Rattle.load.specs.Cuts.{Cell, LoadsRead, Written}
 use Rattle.places.specs.Places.{Listed}
 use Rattle.load.specs.Counts.{cutOf, loadsAt, possibleLoads}
 use Rattle.load.proofs.Crossings.{top-load, bottom-load, both-load}
@@ -127,7 +127,7 @@ table-more tops bottoms a b c i few first second =
 -- the whole table
 pub table-done : (tops bottoms a b : List ℕ) (i : ℕ) → i ≡ length tops + 1
     → Written tops bottoms a b (λ (x y : ℕ). (x < i) × (y < length bottoms + 1))
-    → AllLoads tops bottoms a b
+    → LoadsRead tops bottoms a b
 table-done tops bottoms a b i h all =
     record {
       size = all .size;

@@ -30,7 +30,7 @@ pub record Cell (tops bottoms loads : List ℕ) (i j : ℕ) : Type 0 where
 
 -- the loads of all cuts put into the table `old`: with p top and q bottom pins, i up to p and j up to q. The loads of all
 -- other cuts are as they were.
-pub record AllLoads (tops bottoms old new : List ℕ) : Type 0 where
+pub record LoadsRead (tops bottoms old new : List ℕ) : Type 0 where
   pub size : length new ≡ length old
   pub cell : (i j : ℕ) → i ≤ length tops → j ≤ length bottoms → Cell tops bottoms new i j
   pub others :

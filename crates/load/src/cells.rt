@@ -13,9 +13,9 @@ ghost use lib.ListN.{length, take, drop};
 ghost use Rattle.format.specs.Parts.{terminalsIn};
 ghost use Rattle.arrays.specs.Loads.{loadBytes};
 ghost use Rattle.load.specs.Counts.{possibleLoads};
-ghost use Rattle.load.specs.Cuts.{AllLoads, Written};
+ghost use Rattle.load.specs.Cuts.{LoadsRead, Written};
 ghost use Rattle.nets.specs.Nets.{netsIn};
-ghost use Rattle.places.specs.Places.{TwoSides, Listed};
+ghost use Rattle.places.specs.Places.{AsksPlaces, Listed};
 
 // A load, or 0 where there is no such column.
 fn unless(none: bool, load: u8) -> u8
@@ -64,7 +64,7 @@ fn write_row(tops: &[u16], bottoms: &[u16], places: &[u16], i: usize, loads: &mu
 // Puts the loads of all cuts into the table.
 fn write_table(tops: &[u16], bottoms: &[u16], places: &[u16], loads: &mut [u8])
     requires { ⌜ Listed (now tops) (now bottoms) (now places) × (length (now loads) ≡ loadBytes) ⌝ }
-    ensures { λ r. ⌜ AllLoads (now (tops .entry)) (now (bottoms .entry)) (now (loads .entry)) (now (loads .exit)) ⌝ }
+    ensures { λ r. ⌜ LoadsRead (now (tops .entry)) (now (bottoms .entry)) (now (loads .entry)) (now (loads .exit)) ⌝ }
 {
     let mut i = 0;
     while i < tops.len() + 1 {
@@ -75,8 +75,8 @@ fn write_table(tops: &[u16], bottoms: &[u16], places: &[u16], loads: &mut [u8])
 
 // The table of the nets of two sides, of which the first p are the top's.
 fn tabulate(nets: &[u16], p: usize, loads: &mut [u8])
-    requires { ⌜ TwoSides (now nets) p × (length (now loads) ≡ loadBytes) ⌝ }
-    ensures { λ r. ⌜ AllLoads (take p (now (nets .entry))) (drop p (now (nets .entry))) (now (loads .entry)) (now (loads .exit)) ⌝ }
+    requires { ⌜ AsksPlaces (now nets) p × (length (now loads) ≡ loadBytes) ⌝ }
+    ensures { λ r. ⌜ LoadsRead (take p (now (nets .entry))) (drop p (now (nets .entry))) (now (loads .entry)) (now (loads .exit)) ⌝ }
 {
     let mut places: [u16; 640] = [0; 640];
     let k = list_places(nets, p, &mut places[..]);
@@ -87,7 +87,7 @@ fn tabulate(nets: &[u16], p: usize, loads: &mut [u8])
 // The loads of all cuts of two sections, as `format::part_in` gives them, once per search.
 pub fn read_loads(top: &[u8], bottom: &[u8], loads: &mut [u8])
     requires { ⌜ (length (terminalsIn (now top)) ≤ 64) × (length (terminalsIn (now bottom)) ≤ 64) × (length (now loads) ≡ loadBytes) ⌝ }
-    ensures { λ r. ⌜ AllLoads (netsIn (now (top .entry))) (netsIn (now (bottom .entry))) (now (loads .entry)) (now (loads .exit)) ⌝ }
+    ensures { λ r. ⌜ LoadsRead (netsIn (now (top .entry))) (netsIn (now (bottom .entry))) (now (loads .entry)) (now (loads .exit)) ⌝ }
 {
     let mut nets: [u16; 128] = [0; 128];
     let p = format::count_in(top);

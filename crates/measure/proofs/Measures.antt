@@ -23,7 +23,7 @@ use Rattle.sheet.proofs.Laws.{opened-refused, Opens, opens}
 use Rattle.measure.specs.declared.Measured.{Measured}
 use Rattle.measure.specs.declared.Measured.the-variants.{Density, Sheet as Unsound, Count, Allowed, Distance}
 use Rattle.measure.specs.Answer.{sideAllowed, allAllowed, sideKept, distancesKept, unless, listMeasured, sheetMeasured, measuredOf}
-use Rattle.density.specs.Counted.{Laid}
+use Rattle.density.specs.Counted.{AsksDensity}
 
 -- the columns of a list on each side, as parts of the list
 abbrev topPart : List ℕ → ℕ → List ℕ
@@ -108,7 +108,7 @@ module _ (b cs : List ℕ) (n : Layout) (opening : openedOf b ≡ opened.Sound n
     bottom-terminals : terminalsIn bottom ≡ sheetOf b .bottom
     bottom-terminals = ap terminalsIn isBottom ∙ laws .bottom
 
-    pub laid : Laid top bottom cs (n .shape .top) (n .shape .columns)
+    pub laid : AsksDensity top bottom cs (n .shape .top) (n .shape .columns)
     laid =
         let s = read-sound b (sheetOf b) (laws .reads) in
         let p : n .shape .top ≡ length (sheetOf b .top) = ap (λ (f : Shape). f .top) (laws .shape) in

@@ -13,7 +13,7 @@ use terminal::Refusal;
 ghost use mathlib.Core.Path.{_≡_};
 ghost use Rattle.sheet.specs.Parts.{sheetIn};
 ghost use Rattle.measure.specs.Answer.{measuredOf, listMeasured};
-ghost use Rattle.density.specs.Counted.{Laid};
+ghost use Rattle.density.specs.Counted.{AsksDensity};
 
 // The answer of a measurement; `number_of` and `density_of` give its number and its density.
 pub enum Measured {
@@ -45,7 +45,7 @@ pub fn measure(s: &[u8], columns: &[u8]) -> Measured
 
 // 13, 14 and the density of a list that is p+q long, from the two sections and the channel's length.
 fn measure_list<'a>(top: &'a [u8], bottom: &'a [u8], columns: &[u8], p: usize, l: usize) -> Measured
-    requires { ⌜ Laid (now top) (now bottom) (now columns) p l ⌝ }
+    requires { ⌜ AsksDensity (now top) (now bottom) (now columns) p l ⌝ }
     ensures { λ r. ⌜ r ≡ listMeasured (sheetIn l (now (top .entry)) (now (bottom .entry))) (now (columns .entry)) ⌝ }
 {
     let tops = &columns[..p];

@@ -8,16 +8,16 @@ use Rattle.entry.specs.declared.Grid.{Grid}
 use Rattle.table.specs.Planes.{SameGaps, Filled}
 use Rattle.table.proofs.Planes.{fits-kept}
 use Rattle.pass.specs.declared.Plan.{Plan}
-use Rattle.walk.specs.Walking.{Lies}
-use Rattle.pass.specs.Pass.{Given}
+use Rattle.walk.specs.Walking.{AsksWalk}
+use Rattle.pass.specs.Pass.{AsksPass}
 
 pub lies-kept :
-    (old new rules : List ℕ) (g : Grid) (p q : ℕ) → length new ≡ length old → Lies old rules g p q → Lies new rules g p q
+    (old new rules : List ℕ) (g : Grid) (p q : ℕ) → length new ≡ length old → AsksWalk old rules g p q → AsksWalk new rules g p q
 lies-kept old new rules g p q e l =
     record { rules = l .rules; table = fits-kept old new g p e (l .table); rows = l .rows; bottoms = l .bottoms }
 
 pub given-kept :
-    (old new rules loads : List ℕ) (n : Plan) → length new ≡ length old → Given old rules loads n → Given new rules loads n
+    (old new rules loads : List ℕ) (n : Plan) → length new ≡ length old → AsksPass old rules loads n → AsksPass new rules loads n
 given-kept old new rules loads n e g =
     record { sides = g .sides; lies = lies-kept old new rules _ _ _ e (g .lies); bottoms = g .bottoms; columns = g .columns }
 

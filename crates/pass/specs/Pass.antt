@@ -11,17 +11,17 @@ use Rattle.channel.specs.Density.{mostDensity}
 use Rattle.bits.specs.Bits.{inWord}
 use Rattle.entry.specs.Entry.{cell}
 use Rattle.table.specs.Planes.{SameGaps, Filled}
-use Rattle.entry.specs.Room.{Sides}
+use Rattle.entry.specs.Asks.{AsksArrays}
 use Rattle.pass.specs.declared.Plan.{Plan}
 use Rattle.pass.specs.declared.Outcome.{Outcome}
 use Rattle.pass.specs.declared.Outcome.the-variants as outcome
 use Rattle.walk.specs.Walk.{walkColumns}
-use Rattle.walk.specs.Walking.{Lies}
+use Rattle.walk.specs.Walking.{AsksWalk}
 
 -- what a pass is given: the rules and the loads in their arrays, the table in the work cells, and columns enough for the bottom pins
-pub record Given (work rules loads : List ℕ) (n : Plan) : Type 0 where
-  pub sides : Sides rules loads
-  pub lies : Lies work rules (n .grid) (n .p) (n .q)
+pub record AsksPass (work rules loads : List ℕ) (n : Plan) : Type 0 where
+  pub sides : AsksArrays rules loads
+  pub lies : AsksWalk work rules (n .grid) (n .p) (n .q)
   pub bottoms : n .q ≤ n .l
   pub columns : n .l ≤ 64
 

@@ -10,7 +10,7 @@ ghost use mathlib.Core.Path.{_≡_};
 ghost use mathlib.Core.Bool.{true, false, cond};
 ghost use lib.ListN.{length};
 ghost use Rattle.channel.specs.Density.{mostDensity};
-ghost use Rattle.pass.specs.Pass.{Given, feasibleIn, Rising, Tried, Bounded, Placed};
+ghost use Rattle.pass.specs.Pass.{AsksPass, feasibleIn, Rising, Tried, Bounded, Placed};
 
 // No density is above this.
 const MOST: u8 = 128;
@@ -31,7 +31,7 @@ pub enum Outcome {
 
 // Fills the table under a bound, and says whether all pins can be placed.
 fn try_bound(work: &mut [u16], rules: &[u64], loads: &[u8], plan: Plan, bound: u8) -> bool
-    requires { ⌜ Given (now work) (now rules) (now loads) plan ⌝ }
+    requires { ⌜ AsksPass (now work) (now rules) (now loads) plan ⌝ }
     ensures { λ r. ⌜ Tried (now (rules .entry)) (now (loads .entry)) plan bound (now (work .entry)) (now (work .exit)) r ⌝ }
 {
     let grid = plan.grid;
@@ -80,7 +80,7 @@ fn farther(ahead: u8) -> u8
 // The least bound under which all pins can be placed, where `MOST` is such a bound and `failed` is none. It is most often close above
 // `failed`, so the passes look there first.
 fn least(work: &mut [u16], rules: &[u64], loads: &[u8], plan: Plan, failed: u8) -> u8
-    requires { ⌜ Given (now work) (now rules) (now loads) plan × (feasibleIn (now rules) (now loads) plan failed ≡ false)
+    requires { ⌜ AsksPass (now work) (now rules) (now loads) plan × (feasibleIn (now rules) (now loads) plan failed ≡ false)
         × (feasibleIn (now rules) (now loads) plan mostDensity ≡ true) × Rising (feasibleIn (now rules) (now loads) plan) ⌝ }
     ensures { λ r. ⌜ Bounded (now (rules .entry)) (now (loads .entry)) plan (now (work .entry)) (now (work .exit)) r ⌝ }
 {
@@ -106,7 +106,7 @@ fn place_above(
     failed: u8,
     columns: &mut [u8],
 ) -> Outcome
-    requires { ⌜ Given (now work) (now rules) (now loads) plan × (plan .p + plan .q ≤ length (now columns))
+    requires { ⌜ AsksPass (now work) (now rules) (now loads) plan × (plan .p + plan .q ≤ length (now columns))
         × (feasibleIn (now rules) (now loads) plan failed ≡ false) × Rising (feasibleIn (now rules) (now loads) plan) ⌝ }
     ensures { λ r. ⌜ Placed (now (rules .entry)) (now (loads .entry)) plan
         (now (work .entry)) (now (work .exit)) (now (columns .entry)) (now (columns .exit)) r ⌝ }
@@ -129,7 +129,7 @@ pub fn place(
     plan: Plan,
     columns: &mut [u8],
 ) -> Outcome
-    requires { ⌜ Given (now work) (now rules) (now loads) plan × (plan .p + plan .q ≤ length (now columns))
+    requires { ⌜ AsksPass (now work) (now rules) (now loads) plan × (plan .p + plan .q ≤ length (now columns))
         × Rising (feasibleIn (now rules) (now loads) plan) ⌝ }
     ensures { λ r. ⌜ Placed (now (rules .entry)) (now (loads .entry)) plan
         (now (work .entry)) (now (work .exit)) (now (columns .entry)) (now (columns .exit)) r ⌝ }

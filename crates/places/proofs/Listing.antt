@@ -12,7 +12,7 @@ use lib.Seq.{drop-cons, drop-drop, take-at, drop-at, sets, sets-eq, length-take-
 use lib.Dec.{eqb}
 use Rattle.channel.specs.Density.{any, distinct}
 use Rattle.places.specs.declared.NetPlaces.{NetPlaces}
-use Rattle.places.specs.Places.{placesOf, numbersOf, placesList, placesAt, onceAt, Put, TwoSides, Listed}
+use Rattle.places.specs.Places.{placesOf, numbersOf, placesList, placesAt, onceAt, Put, AsksPlaces, Listed}
 
 -- what stands at index m of the list are the places of the net at m
 places-more : (s : NetPlaces) (xs : List ℕ) (m : ℕ) → placesAt (numbersOf s ++ xs) (suc m) ≡ placesAt xs m
@@ -144,7 +144,7 @@ listed-length tops bottoms places listed =
     )
 
 -- the list of the places of all nets, with the two sides as parts of the list of nets
-pub sides-listed : (ns : List ℕ) (p : ℕ) (xs : List ℕ) → TwoSides ns p
+pub sides-listed : (ns : List ℕ) (p : ℕ) (xs : List ℕ) → AsksPlaces ns p
     → xs ≡ placesList (take p ns) (drop p ns) (distinct ns)
     → Listed (take p ns) (take (length ns - p) (drop p ns)) xs
 sides-listed ns p xs two e =

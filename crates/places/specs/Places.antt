@@ -49,7 +49,7 @@ placesAt places m =
     }
 
 -- a list of nets of which the first p are the top side's and the others the bottom side's
-pub record TwoSides (ns : List ℕ) (p : ℕ) : Type 0 where
+pub record AsksPlaces (ns : List ℕ) (p : ℕ) : Type 0 where
   pub top : p ≤ 64
   pub split : p ≤ length ns
   pub bottom : length ns ≤ p + 64
@@ -65,7 +65,7 @@ pub record Put (tops bottoms ns : List ℕ) (m : ℕ) (old new : List ℕ) (k r 
   pub rest : drop (5 * r) new ≡ drop (5 * r) old
 
 -- the places of all nets of a list, each once, put at the front: r of them; what is behind them is as it was
-pub record AllPlaces (tops bottoms ns old new : List ℕ) (r : ℕ) : Type 0 where
+pub record PlacesListed (tops bottoms ns old new : List ℕ) (r : ℕ) : Type 0 where
   pub count : r ≤ length ns
   pub places : take (5 * r) new ≡ placesList tops bottoms (distinct ns)
   pub rest : drop (5 * r) new ≡ drop (5 * r) old

@@ -6,7 +6,7 @@ ghost use Prim.Native.Nat.{_+_, _*_, _≤_, _<_, min, max};
 ghost use lib.ListN.{length, take, drop};
 ghost use lib.Dec.{eqb};
 ghost use Rattle.channel.specs.Density.{any};
-ghost use Rattle.places.specs.Places.{reached, endsOf, placesOf, numbersOf, placesAt, TwoSides, Put, AllPlaces};
+ghost use Rattle.places.specs.Places.{reached, endsOf, placesOf, numbersOf, placesAt, AsksPlaces, Put, PlacesListed};
 
 // The first and last place of a net on one side, from 1; 255 and 0 if it has no pin there.
 pub struct Ends {
@@ -111,7 +111,7 @@ pub fn places_at(places: &[u16], k: usize) -> NetPlaces
 // Puts the places of the net at index m behind the first k of the list, if it does not stand again behind m.
 // Gives how many the list has then.
 fn list_net(nets: &[u16], p: usize, m: usize, places: &mut [u16], k: usize) -> usize
-    requires { ⌜ TwoSides (now nets) p × (m < length (now nets)) × (k ≤ m) × (length (now places) ≡ 640) ⌝ }
+    requires { ⌜ AsksPlaces (now nets) p × (m < length (now nets)) × (k ≤ m) × (length (now places) ≡ 640) ⌝ }
     ensures { λ r. ⌜ Put (take p (now (nets .entry))) (drop p (now (nets .entry))) (now (nets .entry)) m
         (now (places .entry)) (now (places .exit)) k r ⌝ }
 {
@@ -126,8 +126,8 @@ fn list_net(nets: &[u16], p: usize, m: usize, places: &mut [u16], k: usize) -> u
 
 // Lists the places of all nets, each once, and gives how many nets there are.
 pub fn list_places(nets: &[u16], p: usize, places: &mut [u16]) -> usize
-    requires { ⌜ TwoSides (now nets) p × (length (now places) ≡ 640) ⌝ }
-    ensures { λ r. ⌜ AllPlaces (take p (now (nets .entry))) (drop p (now (nets .entry))) (now (nets .entry))
+    requires { ⌜ AsksPlaces (now nets) p × (length (now places) ≡ 640) ⌝ }
+    ensures { λ r. ⌜ PlacesListed (take p (now (nets .entry))) (drop p (now (nets .entry))) (now (nets .entry))
         (now (places .entry)) (now (places .exit)) r ⌝ }
 {
     let mut k = 0;

@@ -26,7 +26,7 @@ use Rattle.pass.specs.declared.Outcome.the-variants as outcome
 use Rattle.search.specs.Answer.{pinsNeeded, cellsNeeded, answerAs, answerIn, answerIf, searchedOf}
 use Rattle.search.specs.Answer.{columnsIf, columnsAfter, workIf, workAfter, Searches}
 use Rattle.solve.specs.Buffers.{withColumns, cleared}
-use Rattle.solve.specs.Solved.{Asked, outcomeOf, Solved}
+use Rattle.solve.specs.Solved.{AsksSolve, outcomeOf, Solved}
 
 module _ (b columns work : List ℕ) where
   -- the buffers go by the answer
@@ -89,7 +89,7 @@ module _ (b columns work : List ℕ) where
           (ap (λ (k : Shape). k .columns) (laws .shape))
 
       pub solve-asked :
-          n .pins ≤ length columns → n .cells ≤ length work → Asked tops bottoms n (length columns) (length work)
+          n .pins ≤ length columns → n .cells ≤ length work → AsksSolve tops bottoms n (length columns) (length work)
       solve-asked g h =
           record {
             sound = rw same-sheet (read-sound b (sheetOf b) (laws .reads));

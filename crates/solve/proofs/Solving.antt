@@ -21,7 +21,7 @@ use Rattle.format.specs.Parts.{terminalsIn}
 use Rattle.sheet.specs.Parts.{sheetIn}
 use Rattle.arrays.specs.Rules.{ruleWords}
 use Rattle.arrays.specs.Loads.{loadBytes}
-use Rattle.load.specs.Cuts.{Cell, AllLoads}
+use Rattle.load.specs.Cuts.{Cell, LoadsRead}
 use Rattle.nets.specs.Nets.{netsIn}
 use Rattle.load.proofs.LoadOf.{load-of, cell-top, cell-bottom, cell-both}
 use Rattle.table.specs.Planes.{Measures}
@@ -34,17 +34,17 @@ use Rattle.pass.specs.declared.Plan.{Plan}
 use Rattle.pass.specs.declared.Outcome.{Outcome}
 use Rattle.pass.specs.declared.Outcome.the-variants as outcome
 use Rattle.rules.specs.Sides.{SideRules}
-use Rattle.pass.specs.Pass.{Given, feasibleIn, Rising, Least, Placed, tableEnd}
+use Rattle.pass.specs.Pass.{AsksPass, feasibleIn, Rising, Least, Placed, tableEnd}
 use Rattle.agreement.specs.Ready.{SheetLoads, Ready}
 use Rattle.solve.specs.Buffers.{withColumns, cleared}
-use Rattle.solve.specs.Solved.{planOf, Asked, outcomeOf, Worked, Solved}
-use Rattle.walk.specs.Walking.{Lies}
+use Rattle.solve.specs.Solved.{planOf, AsksSolve, outcomeOf, Worked, Solved}
+use Rattle.walk.specs.Walking.{AsksWalk}
 use Rattle.agreement.proofs.Feasible.{feasible-in, feasible-rising}
 use Rattle.agreement.proofs.Walked.{walk-columns}
 
 -- the loads of all cuts of two sections are those of their sheet
 pub loads-sheet :
-    (l : ℕ) (tops bottoms old new : List ℕ) → AllLoads (netsIn tops) (netsIn bottoms) old new → SheetLoads (sheetIn l tops bottoms) new
+    (l : ℕ) (tops bottoms old new : List ℕ) → LoadsRead (netsIn tops) (netsIn bottoms) old new → SheetLoads (sheetIn l tops bottoms) new
 loads-sheet l tops bottoms old new a =
     record {
       top = λ i j h hi hj. cell-top (cut i j hi hj) h ∙ sym (load-of (sheetIn l tops bottoms) top i j);
@@ -81,7 +81,7 @@ plan-sizes l p q h g hp hq =
 
 pub plan-lies :
     (work rules : List ℕ) (l p q : ℕ) → 1 ≤ l → l ≤ 64 → p ≤ l → q ≤ l → length rules ≡ ruleWords
-    → (p + 1) * (q + 1) * ((l + 1) * (l + 1)) ≤ length work → Lies work rules (planOf l p q .grid) p q
+    → (p + 1) * (q + 1) * ((l + 1) * (l + 1)) ≤ length work → AsksWalk work rules (planOf l p q .grid) p q
 plan-lies work rules l p q h g hp hq e room =
     record {
       rules = e;
@@ -107,7 +107,7 @@ crowded s sound h = search-none s sound (by-test (feasible s mostDensity) refl)
     by-test false e = refl
 
 -- what is asked of the two sections
-module _ (tops bottoms : List ℕ) (n : Shape) (c w : ℕ) (asked : Asked tops bottoms n c w) where
+module _ (tops bottoms : List ℕ) (n : Shape) (c w : ℕ) (asked : AsksSolve tops bottoms n c w) where
   top-count : n .top ≡ length (terminalsIn tops)
   top-count = ap (λ (k : Shape). k .top) (asked .numbers)
 
@@ -173,7 +173,7 @@ came-best s rules loads n ready old new columns columns' room outcome.Nothing pl
     (rw e, rw e same)
 
 module _ (tops bottoms : List ℕ) (n : Shape) (columns work : List ℕ)
-    (asked : Asked tops bottoms n (length columns) (length work)) (hp : n .top ≤ n .columns) (hq : n .bottom ≤ n .columns)
+    (asked : AsksSolve tops bottoms n (length columns) (length work)) (hp : n .top ≤ n .columns) (hq : n .bottom ≤ n .columns)
     (rules loads : List ℕ) (plan : Plan) (planned : plan ≡ planOf (n .columns) (n .top) (n .bottom))
     (rt : SideRules 0 (terminalsIn tops) rules) (rb : SideRules 1 (terminalsIn bottoms) rules)
     (ls : SheetLoads (sheetIn (n .columns) tops bottoms) loads)
@@ -184,7 +184,7 @@ module _ (tops bottoms : List ℕ) (n : Shape) (columns work : List ℕ)
     -- what the passes ask
     pub place-asked :
         length rules ≡ ruleWords → length loads ≡ loadBytes
-        → Given work rules loads plan × (plan .p + plan .q ≤ length columns) × Rising (feasibleIn rules loads plan)
+        → AsksPass work rules loads plan × (plan .p + plan .q ≤ length columns) × Rising (feasibleIn rules loads plan)
     place-asked er el = (
       record {
         sides = record { rules = er; loads = el };

@@ -34,7 +34,7 @@ planOf l p q =
     }
 
 -- the shape is that of the sections, the sheet is sound, and both buffers are long enough
-pub record Asked (top bottom : List ℕ) (n : Shape) (columns work : ℕ) : Type 0 where
+pub record AsksSolve (top bottom : List ℕ) (n : Shape) (columns work : ℕ) : Type 0 where
   pub sound : Sound (sheetIn (n .columns) top bottom)
   pub numbers : n ≡ shape (n .columns) (length (terminalsIn top)) (length (terminalsIn bottom))
   pub pins : n .pins ≤ columns

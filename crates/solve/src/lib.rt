@@ -11,7 +11,7 @@ ghost use mathlib.Core.List.{_++_};
 ghost use mathlib.Core.Bool.{cond};
 ghost use lib.ListN.{length, drop, replicate};
 ghost use lib.Dec.{eqb};
-ghost use Rattle.solve.specs.Solved.{planOf, Asked, Worked, Solved};
+ghost use Rattle.solve.specs.Solved.{planOf, AsksSolve, Worked, Solved};
 
 // The rows of a plane: the columns in which a top pin can stand.
 fn rows_of(l: usize, p: usize) -> usize
@@ -41,7 +41,7 @@ fn make_plan(l: usize, p: usize, q: usize) -> Plan
 
 // Writes the columns of the best assignment, if there is one. What it leaves in the cells that it works in is for `solve` to clear.
 fn find(top: &[u8], bottom: &[u8], shape: Shape, columns: &mut [u8], work: &mut [u16]) -> Outcome
-    requires { ⌜ Asked (now top) (now bottom) shape (length (now columns)) (length (now work)) ⌝ }
+    requires { ⌜ AsksSolve (now top) (now bottom) shape (length (now columns)) (length (now work)) ⌝ }
     ensures { λ r. ⌜ Worked (now (top .entry)) (now (bottom .entry)) shape
         (now (columns .entry)) (now (columns .exit)) (now (work .entry)) (now (work .exit)) r ⌝ }
 {
@@ -83,7 +83,7 @@ pub fn solve(
     columns: &mut [u8],
     work: &mut [u16],
 ) -> Outcome
-    requires { ⌜ Asked (now top) (now bottom) shape (length (now columns)) (length (now work)) ⌝ }
+    requires { ⌜ AsksSolve (now top) (now bottom) shape (length (now columns)) (length (now work)) ⌝ }
     ensures { λ r. ⌜ Solved (now (top .entry)) (now (bottom .entry)) shape
         (now (columns .entry)) (now (columns .exit)) (now (work .entry)) (now (work .exit)) r ⌝ }
 {

@@ -19,8 +19,8 @@ use Rattle.entry.specs.declared.Grid.{Grid}
 use Rattle.arrays.specs.Rules.{allowedAt, rangeAt}
 use Rattle.arrays.specs.Loads.{loadAt}
 use Rattle.entry.specs.Entry.{held, startPart, topPart, bottomPart, bothPart, entry, bottomsOnly, withTops, cell}
-use Rattle.table.specs.Planes.{Measures, Earlier, SameGaps, Filled, Fits, baseOf}
-use Rattle.entry.specs.Room.{Room}
+use Rattle.table.specs.Planes.{Measures, Earlier, SameGaps, Filled, AsksTable, baseOf}
+use Rattle.entry.specs.Asks.{AsksEntry}
 
 -- the products of the places
 next-product : (n m : ℕ) → (n + 1) * m ≡ n * m + m
@@ -263,7 +263,7 @@ filled-then {end = end} {end' = end'} {old = old} {mid = mid} f h l =
 -- a row of a plane, and the same row of the planes before it, lie in the cells
 pub place-room :
     (work : List ℕ) (g : Grid) (i j x at : ℕ) → Measures g → i ≤ 64 → j < g .across → x < g .rows → at ≡ baseOf g i j
-    → at + g .size ≤ length work → Room work g (record { i = i; j = j; x = x; at = at })
+    → at + g .size ≤ length work → AsksEntry work g (record { i = i; j = j; x = x; at = at })
 place-room work g i j x at sizes hi hj hx e room =
     record {
       i = hi;
@@ -303,17 +303,17 @@ module _ (g : Grid) (i : ℕ) where
       omega (arith, next-product i (g .stride), mul-le-mul-right (g .stride) more)
 
   -- a row of a plane that lies in the cells
-  pub row-room : (work : List ℕ) (j x : ℕ) → Fits work g i → j < g .across → x < g .rows → baseOf g i j + 4 * x + 4 ≤ length work
+  pub row-room : (work : List ℕ) (j x : ℕ) → AsksTable work g i → j < g .across → x < g .rows → baseOf g i j + 4 * x + 4 ≤ length work
   row-room work j x fits hj hx =
       omega (arith, plane-in-row (fits .sizes) j hj, row-next, fits .sizes .rows .0, fits .room)
 
   -- with the planes of 0 to p lie those of 0 to a smaller number
-  pub fits-less : (work : List ℕ) (p : ℕ) → i ≤ p → Fits work g p → Fits work g i
+  pub fits-less : (work : List ℕ) (p : ℕ) → i ≤ p → AsksTable work g p → AsksTable work g i
   fits-less work p h fits =
       record { sizes = fits .sizes; tops = omega (arith, fits .tops); room = omega (arith, row-in-table p h, row-next, fits .room) }
 
 -- whether planes lie in the cells goes by the number of cells alone
-pub fits-kept : (old new : List ℕ) (g : Grid) (p : ℕ) → length new ≡ length old → Fits old g p → Fits new g p
+pub fits-kept : (old new : List ℕ) (g : Grid) (p : ℕ) → length new ≡ length old → AsksTable old g p → AsksTable new g p
 fits-kept old new g p e fits = record { sizes = fits .sizes; tops = fits .tops; room = rw e (fits .room) }
 
 -- nothing is filled yet

@@ -23,7 +23,7 @@ abbrev pub baseOf : Grid → ℕ → ℕ → ℕ
 baseOf g i j = i * g .stride + j * g .size
 
 -- the planes of 0 to p lie in the cells
-pub record Fits (work : List ℕ) (g : Grid) (p : ℕ) : Type 0 where
+pub record AsksTable (work : List ℕ) (g : Grid) (p : ℕ) : Type 0 where
   pub sizes : Measures g
   pub tops : p ≤ 64
   pub room : (p + 1) * g .stride ≤ length work

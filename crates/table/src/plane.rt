@@ -6,8 +6,8 @@ use entry::word;
 ghost use Prim.Native.Nat.{_+_, _*_, _≤_, _<_};
 ghost use mathlib.Core.Path.{_≡_};
 ghost use lib.ListN.{length};
-ghost use Rattle.table.specs.Planes.{Measures, Earlier, Filled, Fits, baseOf};
-ghost use Rattle.entry.specs.Room.{Sides};
+ghost use Rattle.table.specs.Planes.{Measures, Earlier, Filled, AsksTable, baseOf};
+ghost use Rattle.entry.specs.Asks.{AsksArrays};
 
 // Fills the plane of (i, j), whose cells start at `at`.
 fn fill_plane(
@@ -20,7 +20,7 @@ fn fill_plane(
     j: usize,
     at: usize,
 )
-    requires { ⌜ Sides (now rules) (now loads) × Measures grid × (i ≤ 64) × (j < grid .across) × (at ≡ baseOf grid i j)
+    requires { ⌜ AsksArrays (now rules) (now loads) × Measures grid × (i ≤ 64) × (j < grid .across) × (at ≡ baseOf grid i j)
         × (at + grid .size ≤ length (now work)) × Earlier (now rules) (now loads) bound grid i j (now work) ⌝ }
     ensures { λ _. ⌜ Filled (now (rules .entry)) (now (loads .entry)) bound grid i (j + 1) (at + grid .size)
         (now (work .entry)) (now (work .exit)) ⌝ }
@@ -44,7 +44,7 @@ fn fill_row(
     i: usize,
     at: usize,
 )
-    requires { ⌜ Sides (now rules) (now loads) × Measures grid × (i ≤ 64) × (at ≡ i * grid .stride)
+    requires { ⌜ AsksArrays (now rules) (now loads) × Measures grid × (i ≤ 64) × (at ≡ i * grid .stride)
         × (at + grid .stride ≤ length (now work)) × Earlier (now rules) (now loads) bound grid i 0 (now work) ⌝ }
     ensures { λ _. ⌜ Filled (now (rules .entry)) (now (loads .entry)) bound grid (i + 1) 0 (at + grid .stride)
         (now (work .entry)) (now (work .exit)) ⌝ }
@@ -62,7 +62,7 @@ fn fill_row(
 
 // Fills the planes of 0 to p. A cell that is in no row of theirs stays as it was.
 pub fn fill(work: &mut [u16], rules: &[u64], loads: &[u8], grid: Grid, bound: u8, p: usize)
-    requires { ⌜ Sides (now rules) (now loads) × Fits (now work) grid p ⌝ }
+    requires { ⌜ AsksArrays (now rules) (now loads) × AsksTable (now work) grid p ⌝ }
     ensures { λ _. ⌜ Filled (now (rules .entry)) (now (loads .entry)) bound grid (p + 1) 0 ((p + 1) * grid .stride)
         (now (work .entry)) (now (work .exit)) ⌝ }
 {

@@ -10,7 +10,7 @@ ghost use mathlib.Core.Path.{_≡_};
 ghost use mathlib.Core.Bool.{_&&_};
 ghost use lib.Dec.{leb};
 ghost use Rattle.bits.specs.Bits.{bitOf};
-ghost use Rattle.table.specs.Planes.{Fits, meeting};
+ghost use Rattle.table.specs.Planes.{AsksTable, meeting};
 
 // Whether some row from `low` to `high` of plane (i, j), whose step to `next` is in `by`, meets the mask.
 pub fn meets(
@@ -24,7 +24,7 @@ pub fn meets(
     by: u64,
     mask: u64,
 ) -> bool
-    requires { ⌜ Fits (now work) grid i × (j < grid .across) × (low ≤ high) × (high < grid .rows) × (high ≤ next) ⌝ }
+    requires { ⌜ AsksTable (now work) grid i × (j < grid .across) × (low ≤ high) × (high < grid .rows) × (high ≤ next) ⌝ }
     ensures { λ r. ⌜ r ≡ meeting (now (work .entry)) grid i j low high next by mask ⌝ }
 {
     let base = i * grid.stride + j * grid.size;

@@ -18,7 +18,7 @@ use Rattle.table.specs.Planes.{heldAt, meeting}
 use Rattle.walk.specs.declared.Mark.{Mark}
 use Rattle.walk.specs.Walk.{stepsTo, standsAt, numberFits, lefts, rowFits, rowMeets, someLeft, someHere, emptyMeets, topMeets}
 use Rattle.walk.specs.Walk.{emptyFits, topFits, bottomFits, choiceIn, hasTopPin, hasBottomPin, behind, written, walkColumns}
-use Rattle.walk.specs.Walking.{Walks}
+use Rattle.walk.specs.Walking.{AsksStep}
 
 -- a letter with a pin has one to place
 pub pin-left : (letter n a b : ℕ) → (ltb 0 n && (eqb letter a || eqb letter b)) ≡ true → 0 < n
@@ -154,7 +154,7 @@ module _ (work rules : List ℕ) (g : Grid) (p q : ℕ) (m : Mark) where
   chose-other b e t f = rw (e, t, f)
 
 -- the walk goes on with what it needs
-pub walks-on : (p q letter : ℕ) (m : Mark) → 0 < m .c → Walks p q m → Walks p q (behind letter m)
+pub walks-on : (p q letter : ℕ) (m : Mark) → 0 < m .c → AsksStep p q m → AsksStep p q (behind letter m)
 walks-on p q letter m some-left w =
     record {
       c = omega (arith, w .c);
@@ -173,7 +173,7 @@ walks-on p q letter m some-left w =
     placed true n k at h l = omega (arith, some-left)
     placed false n k at h l = omega (arith, h l)
 
-pub walks-from : (p q l : ℕ) → l ≤ 64 → Walks p q (record { c = l; i = p; j = q; top = 0; bottom = 0 })
+pub walks-from : (p q l : ℕ) → l ≤ 64 → AsksStep p q (record { c = l; i = p; j = q; top = 0; bottom = 0 })
 walks-from p q l h =
     record { c = h; i = le-refl p; j = le-refl q; top = λ n. absurd (omega arith); bottom = λ n. absurd (omega arith) }
 

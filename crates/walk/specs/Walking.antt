@@ -6,18 +6,18 @@ use mathlib.Core.List.{List}
 use lib.ListN.{length}
 use Rattle.arrays.specs.Rules.{ruleWords}
 use Rattle.entry.specs.declared.Grid.{Grid}
-use Rattle.table.specs.Planes.{Fits}
+use Rattle.table.specs.Planes.{AsksTable}
 use Rattle.walk.specs.declared.Mark.{Mark}
 
 -- the planes of 0 to p, for 0 to q bottom pins and of one row or more, lie in the work cells, and so do the rules in their array
-pub record Lies (w r : List ℕ) (g : Grid) (p q : ℕ) : Type 0 where
+pub record AsksWalk (w r : List ℕ) (g : Grid) (p q : ℕ) : Type 0 where
   pub rules : length r ≡ ruleWords
-  pub table : Fits w g p
+  pub table : AsksTable w g p
   pub rows : 0 < g .rows
   pub bottoms : q + 1 ≡ g .across
 
 -- no more pins are to be placed than there are, and the pins placed last stand behind the columns that are left
-pub record Walks (p q : ℕ) (m : Mark) : Type 0 where
+pub record AsksStep (p q : ℕ) (m : Mark) : Type 0 where
   pub c : m .c ≤ 64
   pub i : m .i ≤ p
   pub j : m .j ≤ q

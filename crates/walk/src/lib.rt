@@ -13,7 +13,7 @@ ghost use Rattle.arrays.specs.Rules.{pins, ruleWords};
 ghost use Rattle.bits.specs.Bits.{bitOf};
 ghost use Rattle.walk.specs.Walk.{stepsTo, standsAt, lefts, emptyMeets, topMeets, bottomFits, choiceIn};
 ghost use Rattle.walk.specs.Walk.{hasTopPin, hasBottomPin, behind, written, walkColumns};
-ghost use Rattle.walk.specs.Walking.{Lies, Walks};
+ghost use Rattle.walk.specs.Walking.{AsksWalk, AsksStep};
 
 // How far the walk has come: c columns are still to be lettered, i top and j bottom pins to be placed, and the pins
 // placed last stand in the columns top and bottom.
@@ -81,7 +81,7 @@ fn empty_fits(
     m: Mark,
     lefts: u64,
 ) -> bool
-    requires { ⌜ Lies (now work) (now rules) grid p q × Walks p q m × (0 < m .c) ⌝ }
+    requires { ⌜ AsksWalk (now work) (now rules) grid p q × AsksStep p q m × (0 < m .c) ⌝ }
     ensures { λ r. ⌜ r ≡ emptyMeets (now (work .entry)) (now (rules .entry)) grid p m lefts ⌝ }
 {
     let i = m.i;
@@ -105,7 +105,7 @@ fn top_fits(
     m: Mark,
     lefts: u64,
 ) -> bool
-    requires { ⌜ Lies (now work) (now rules) grid p q × Walks p q m × (0 < m .c) ⌝ }
+    requires { ⌜ AsksWalk (now work) (now rules) grid p q × AsksStep p q m × (0 < m .c) ⌝ }
     ensures { λ r. ⌜ r ≡ topMeets (now (work .entry)) (now (rules .entry)) grid p m lefts ⌝ }
 {
     let i = m.i;
@@ -127,7 +127,7 @@ fn top_fits(
 
 // Whether it can hold a bottom pin alone.
 fn bottom_fits(work: &[u16], rules: &[u64], grid: Grid, p: usize, q: usize, m: Mark) -> bool
-    requires { ⌜ Lies (now work) (now rules) grid p q × Walks p q m × (0 < m .c) ⌝ }
+    requires { ⌜ AsksWalk (now work) (now rules) grid p q × AsksStep p q m × (0 < m .c) ⌝ }
     ensures { λ r. ⌜ r ≡ bottomFits (now (work .entry)) (now (rules .entry)) grid p q m ⌝ }
 {
     let j = m.j;
@@ -149,7 +149,7 @@ fn bottom_fits(work: &[u16], rules: &[u64], grid: Grid, p: usize, q: usize, m: M
 
 // The smallest letter after which the rest can still be placed.
 fn choose(work: &[u16], rules: &[u64], grid: Grid, p: usize, q: usize, m: Mark) -> u8
-    requires { ⌜ Lies (now work) (now rules) grid p q × Walks p q m × (0 < m .c) ⌝ }
+    requires { ⌜ AsksWalk (now work) (now rules) grid p q × AsksStep p q m × (0 < m .c) ⌝ }
     ensures { λ r. ⌜ r ≡ choiceIn (now (work .entry)) (now (rules .entry)) grid p q m ⌝ }
 {
     let lefts = left_numbers(rules, q, m);
@@ -243,7 +243,7 @@ pub fn walk(
     l: usize,
     columns: &mut [u8],
 )
-    requires { ⌜ Lies (now work) (now rules) grid p q × (l ≤ 64) × (p + q ≤ length (now columns)) ⌝ }
+    requires { ⌜ AsksWalk (now work) (now rules) grid p q × (l ≤ 64) × (p + q ≤ length (now columns)) ⌝ }
     ensures { λ _. ⌜ now (columns .exit) ≡ walkColumns (now (work .entry)) (now (rules .entry)) grid p q l
         (record { c = l; i = p; j = q; top = 0; bottom = 0 }) (now (columns .entry)) ⌝ }
 {

@@ -7,7 +7,7 @@ use native.Mathlib.Omega.{arith}
 use lib.ListN.{length}
 use Rattle.walk.specs.declared.Mark.{Mark}
 use Rattle.walk.specs.Walk.{walkColumns}
-use Rattle.walk.specs.Walking.{Walks}
+use Rattle.walk.specs.Walking.{AsksStep}
 use Rattle.walk.proofs.Choices.{walks-on, walks-from, walk-more, walk-none}
 use Rattle.walk.proofs.walk.Statement.{statement}
 use Rattle.walk.proofs.walk.Tie as tie
@@ -15,7 +15,7 @@ use Rattle.walk.proofs.walk.Tie as tie
 abbrev Inv-loop : tie.InvT-loop
 Inv-loop work rules grid p q l columns₀ m₀ left₀ columns m left =
     (left ≡ m .c)
-    × Walks p q m
+    × AsksStep p q m
     × (length columns ≡ length columns₀)
     × (walkColumns work rules grid p q left m columns
     ≡ walkColumns work rules grid p q l (record { c = l; i = p; j = q; top = 0; bottom = 0 }) columns₀)

@@ -10,12 +10,12 @@ use Rattle.entry.specs.declared.Grid.{Grid}
 use Rattle.entry.specs.declared.Place.{Place}
 
 -- the two sides' rules, and the loads of every cut
-pub record Sides (r l : List ℕ) : Type 0 where
+pub record AsksArrays (r l : List ℕ) : Type 0 where
   pub rules : length r ≡ ruleWords
   pub loads : length l ≡ loadBytes
 
 -- the row lies in the cells, and so do the same rows of the planes before it
-pub record Room (work : List ℕ) (g : Grid) (p : Place) : Type 0 where
+pub record AsksEntry (work : List ℕ) (g : Grid) (p : Place) : Type 0 where
   pub i : p .i ≤ 64
   pub j : p .j ≤ 64
   pub x : (4 * p .x + 4 ≤ g .size) × (p .x < 64)
