@@ -11,7 +11,8 @@ use Rattle.channel.specs.Word.{Letter}
 use Rattle.channel.specs.Word.Letter.{top as T, bottom as B, both as TB}
 use Rattle.channel.specs.Cut.{nets, load}
 use Rattle.arrays.specs.Loads.{loadAt}
-use Rattle.load.specs.Cuts.{loadOf, Cell}
+use Rattle.load.specs.Cuts.{Cell}
+use Rattle.cut.specs.Counts.{loadOf}
 
 -- a sheet's load is that of the nets of its two sides
 pub load-of : (s : Sheet) (a : Letter) (i j : ℕ) → load s a i j ≡ loadOf (nets (s .top)) (nets (s .bottom)) a i j

@@ -13,11 +13,11 @@ use borrow.Author.Tests.{ne-eqb}
 use Rattle.arrays.specs.Rules.{pins}
 use Rattle.arrays.specs.Loads.{loadBytes, loadAt, putLoads}
 use Rattle.arrays.proofs.Loads.{length-put-loads, top-put, bottom-put, both-put, load-put-other}
-use Rattle.load.specs.declared.counting.Loads.{Loads}
+use Rattle.cut.specs.declared.Loads.{Loads}
 use Rattle.load.specs.Cuts.{Cell, LoadsRead, Written}
 use Rattle.places.specs.Places.{Listed}
-use Rattle.load.specs.Counts.{cutOf, loadsAt, possibleLoads}
-use Rattle.load.proofs.Crossings.{top-load, bottom-load, both-load}
+use Rattle.cut.specs.Counts.{cutOf, loadsAt, possibleLoads}
+use Rattle.cut.proofs.Crossings.{top-load, bottom-load, both-load}
 
 -- loads that are equal where the column can be are equal with 0 for the others
 kept : (i x y : ℕ) → (1 ≤ i → x ≡ y) → cond (eqb i 0) 0 x ≡ cond (eqb i 0) 0 y

@@ -2,24 +2,14 @@
 -- Assumes nothing.
 use Prim.Native.Nat.{ℕ, _≤_}
 use mathlib.Core.Path.{_≡_}
-use mathlib.Core.List.{List, _++_}
+use mathlib.Core.List.{List}
 use mathlib.Core.Bool.{cond, _||_}
 use lib.ListN.{length}
 use lib.Dec.{eqb}
-use Rattle.channel.specs.Density.{weightOf, distinct}
-use Rattle.channel.specs.Word.{Letter, hasTop, hasBottom}
 use Rattle.channel.specs.Word.Letter.{top as T, bottom as B, both as TB}
-use Rattle.channel.specs.Cut.{leftOf, hereOf, rightOf, crossesCut}
+use Rattle.cut.specs.Counts.{loadOf}
 use Rattle.arrays.specs.Rules.{pins}
 use Rattle.arrays.specs.Loads.{loadAt}
-
--- the load of a column, as channel's `load` has it, from the nets of the two sides alone
-unfoldable pub loadOf : List ℕ → List ℕ → Letter → ℕ → ℕ → ℕ
-loadOf tops bottoms a i j =
-    weightOf
-    (λ (n : ℕ). crossesCut n (leftOf (hasTop a) i tops ++ leftOf (hasBottom a) j bottoms)
-    (hereOf (hasTop a) i tops ++ hereOf (hasBottom a) j bottoms) (rightOf i tops ++ rightOf j bottoms))
-    (distinct (tops ++ bottoms))
 
 -- the loads of the cut (i, j), of a column with a top pin only, a bottom pin only, and both.
 -- A column with a top pin has i ≥ 1, and one with a bottom pin has j ≥ 1: where there is no such column, the byte is 0.
