@@ -12,10 +12,10 @@ use Rattle.channel.specs.Sheet.{Terminal}
 use Rattle.terminal.specs.Terminal.{recordOf}
 use Rattle.format.specs.declared.Side.{Side}
 use Rattle.sheet.specs.declared.Entry.{Entry}
-use Rattle.sheet.specs.declared.Visit.{Visit}
+use Rattle.cursor.specs.declared.Visit.{Visit}
 use Rattle.format.specs.Parts.{terminalsIn}
 use Rattle.sheet.specs.Parts.{nth, entryOf, entryIn}
-use Rattle.sheet.specs.Visits.{visits}
+use Rattle.cursor.specs.Visits.{visits}
 use Rattle.sheet.proofs.Laws.{entry-in}
 use Rattle.lines.specs.Text.{line, entryLine, lines}
 

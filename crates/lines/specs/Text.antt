@@ -6,7 +6,7 @@ use Rattle.format.specs.declared.Side.{Side}
 use Rattle.format.specs.declared.Side.the-variants.{Top, Bottom}
 use Rattle.sheet.specs.declared.Entry.{Entry}
 use Rattle.sheet.specs.declared.Entry.the-variants.{Terminal, Nothing}
-use Rattle.sheet.specs.declared.Visit.{Visit}
+use Rattle.cursor.specs.declared.Visit.{Visit}
 use Rattle.text.specs.Digits as text
 
 -- a name and its number: none that is printed has more than five digits, since nets have 16 bits

@@ -1,14 +1,14 @@
 // The lines of an assignment's terminals.
+use cursor::Visit;
 use format::Side;
 use sheet::Entry;
-use sheet::Visit;
 use text::put_byte;
 use text::put_field;
 ghost use mathlib.Core.Path.{_≡_};
 ghost use Prim.Native.Nat.{_+_, _*_, _≤_};
 ghost use lib.ListN.{length};
 ghost use Rattle.format.specs.Parts.{terminalsIn};
-ghost use Rattle.sheet.specs.Visits.{visits};
+ghost use Rattle.cursor.specs.Visits.{visits};
 ghost use Rattle.text.specs.Writing.{Wrote};
 ghost use Rattle.lines.specs.Text.{letterOf, line, entryLine, lines};
 

@@ -32,7 +32,7 @@ use denote.Triple.Statement.{Contract}
 use denote.Triple.Entry.{Vals, onEntry}
 use denote.Triple.Spec.{tripleOf}
 use denote.Triple.Clauses.{ensured, lasts}
-use Rattle.sheet.specs.declared.Step.{Step}
+use Rattle.cursor.specs.declared.Step.{Step}
 use Rattle.reader.specs.Reader.{stepAt}
 use Rattle.reader.specs.declared.Reader.{Reader}
 use Rattle.reader.proofs.Reader as T

@@ -11,12 +11,12 @@ use Rattle.format.specs.declared.Side.{Side}
 use Rattle.format.specs.declared.Side.the-variants.{Top, Bottom}
 use Rattle.soundness.specs.Read.{Read, read}
 use Rattle.soundness.specs.Read.Read.{sound, refused}
-use Rattle.sheet.specs.declared.Cursor.{Cursor}
-use Rattle.sheet.specs.declared.Step.{Step}
-use Rattle.sheet.specs.declared.Step.the-variants.{Finished}
-use Rattle.sheet.specs.declared.Visit.{Visit}
-use Rattle.sheet.specs.Visits.{visits, allVisits, stepIn, stepAs}
-use Rattle.sheet.proofs.Laws.{visits-of, length-visits, step-of}
+use Rattle.cursor.specs.declared.Cursor.{Cursor}
+use Rattle.cursor.specs.declared.Step.{Step}
+use Rattle.cursor.specs.declared.Step.the-variants.{Finished}
+use Rattle.cursor.specs.declared.Visit.{Visit}
+use Rattle.cursor.specs.Visits.{visits, allVisits, stepIn, stepAs}
+use Rattle.cursor.proofs.Laws.{visits-of, length-visits, step-of}
 use Rattle.reader.specs.Reader.{stepAt, passedAfter}
 use Rattle.reader.specs.Steps.{placeAfter, stepNumber, visitIn, terminalsBy, Reads}
 

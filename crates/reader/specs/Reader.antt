@@ -4,9 +4,9 @@ use Prim.Native.Nat.{ℕ}
 use mathlib.Core.Path.{_≡_}
 use mathlib.Core.List.{List}
 use denote.Ref.{now}
-use Rattle.sheet.specs.declared.Step.{Step}
-use Rattle.sheet.specs.declared.Step.the-variants.{Terminal, Finished}
-use Rattle.sheet.specs.Visits.{stepOf}
+use Rattle.cursor.specs.declared.Step.{Step}
+use Rattle.cursor.specs.declared.Step.the-variants.{Terminal, Finished}
+use Rattle.cursor.specs.Visits.{stepOf}
 use Rattle.reader.specs.declared.Reader.{Reader}
 
 -- what a sheet has after so many terminals: the next of them, with its side, place and record, or the end

@@ -8,10 +8,10 @@ use Rattle.channel.specs.Sheet.{Sheet}
 use Rattle.format.specs.declared.Side.the-variants.{Top, Bottom}
 use Rattle.soundness.specs.Read.{Read}
 use Rattle.soundness.specs.Read.Read.{sound, refused}
-use Rattle.sheet.specs.declared.Step.{Step}
-use Rattle.sheet.specs.declared.Step.the-variants.{Terminal, Finished}
-use Rattle.sheet.specs.declared.Visit.{Visit}
-use Rattle.sheet.specs.Visits.{visits}
+use Rattle.cursor.specs.declared.Step.{Step}
+use Rattle.cursor.specs.declared.Step.the-variants.{Terminal, Finished}
+use Rattle.cursor.specs.declared.Visit.{Visit}
+use Rattle.cursor.specs.Visits.{visits}
 use Rattle.reader.specs.Reader.{stepAt, passedAfter}
 
 -- the place of a new reader after n steps

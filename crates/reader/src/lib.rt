@@ -1,7 +1,7 @@
 // A reader of a sheet: it holds the sheet, and steps through its terminals, top then bottom. The borrow checker covers no
 // function over a struct that holds a reference, so those here are thin, and `step_at` and `passed_after` do the work.
-use sheet::Cursor;
-use sheet::Step;
+use cursor::Cursor;
+use cursor::Step;
 ghost use mathlib.Core.Path.{_≡_};
 ghost use Rattle.reader.specs.Reader.{stepAt, passedAfter, Stepped};
 

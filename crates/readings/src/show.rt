@@ -1,8 +1,8 @@
 // What a step finds, in a line of text.
+use cursor::Step;
+use cursor::Visit;
 use printing::number;
 use printing::text;
-use sheet::Step;
-use sheet::Visit;
 
 pub fn step(found: Step) {
     match found {

@@ -17,8 +17,9 @@ use Rattle.sheet.specs.declared.Opened.the-variants as opened
 use Rattle.sheet.specs.declared.Shape.{Shape}
 use Rattle.format.specs.Parts.{bytesOf, terminalsIn}
 use Rattle.sheet.specs.Parts.{shapeOf, openedOf}
-use Rattle.sheet.specs.Visits.{visits}
-use Rattle.sheet.proofs.Laws.{opened-refused, shape-read, visits-of, length-visits, Opens, opens}
+use Rattle.cursor.specs.Visits.{visits}
+use Rattle.sheet.proofs.Laws.{opened-refused, shape-read, Opens, opens}
+use Rattle.cursor.proofs.Laws.{visits-of, length-visits}
 use Rattle.lines.specs.Text.{lines}
 use Rattle.lines.proofs.Laws.{lines-append}
 use Rattle.report.specs.Writing.{visitsAs, visitsOf}

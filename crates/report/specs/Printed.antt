@@ -10,7 +10,7 @@ use Rattle.channel.specs.Sheet.{Sheet}
 use Rattle.channel.specs.Best.{Found, best}
 use Rattle.channel.specs.Best.Found.{none, found}
 use Rattle.soundness.specs.Read.{sheetOf}
-use Rattle.sheet.specs.Visits.{allVisits}
+use Rattle.cursor.specs.Visits.{allVisits}
 use Rattle.search.specs.declared.Searched.{Searched}
 use Rattle.search.specs.declared.Searched.the-variants as searched
 use Rattle.search.specs.Answer.{searchedOf, numberOf}

@@ -2,10 +2,10 @@
 -- Assumes nothing.
 use Prim.Native.Nat.{ℕ}
 use mathlib.Core.List.{List, []}
-use Rattle.sheet.specs.declared.Visit.{Visit}
+use Rattle.cursor.specs.declared.Visit.{Visit}
 use Rattle.soundness.specs.Read.{Read, read}
 use Rattle.soundness.specs.Read.Read.{sound, refused}
-use Rattle.sheet.specs.Visits.{allVisits}
+use Rattle.cursor.specs.Visits.{allVisits}
 
 -- the terminals of a sheet as read, top then bottom
 abbrev pub visitsAs : Read → List Visit

@@ -1,8 +1,8 @@
 -- What the layers above may use of the sheet layer: laws of its definitions that say nothing of where a byte stands.
 -- Assumes nothing.
-use Prim.Native.Nat.{ℕ, zero, suc, _+_, _≤_}
+use Prim.Native.Nat.{ℕ, zero, suc, _≤_}
 use mathlib.Core.Path.{_≡_, refl, sym, _∙_, ap}
-use mathlib.Core.List.{List, [], _∷_, _++_}
+use mathlib.Core.List.{List, [], _∷_}
 use native.Mathlib.Omega.{arith}
 use lib.ListN.{length}
 use Rattle.channel.specs.Sheet.{Terminal, Sheet}
@@ -14,12 +14,10 @@ use Rattle.soundness.specs.declared.Checked.the-variants.{Sound}
 use Rattle.soundness.specs.Check.{checkOf}
 use Rattle.soundness.specs.Read.{sheetOf, read}
 use Rattle.soundness.specs.Read.Read.{sound}
-use Rattle.sheet.specs.declared.Cursor.{Cursor}
 use Rattle.sheet.specs.declared.Entry.the-variants.{Nothing}
 use Rattle.sheet.specs.declared.Layout.{Layout}
 use Rattle.sheet.specs.declared.Opened.the-variants.{Sound as Laid}
 use Rattle.sheet.specs.Parts.{shape, shapeAs, shapeOf, openedOf, sectionOf, nth, entryOf, entryIn}
-use Rattle.sheet.specs.Visits.{visits, allVisits, stepAs, stepOf}
 use Rattle.soundness.proofs.Laws.{sound-read}
 use Rattle.sheet.proofs.Sections.{opened-sound, layout-shape, sound-section}
 -- what the check refuses does not open
@@ -68,17 +66,3 @@ nth-there (t ∷ ts) (suc k) h = omega (arith, nth-there ts k h)
 pub entry-there : (part : List ℕ) (place : ℕ) → 1 ≤ place → place ≤ length (terminalsIn part) → entryIn part place ≡ Nothing → ⊥
 entry-there part zero p l h = omega arith
 entry-there part (suc k) p l h = omega (arith, nth-there (terminalsIn part) k (sym (entry-in part (suc k)) ∙ h))
-
--- the steps go through the terminals of the top, then through those of the bottom
-pub visits-of : (s : Sheet) → allVisits s ≡ visits Top 1 (s .top) ++ visits Bottom 1 (s .bottom)
-unfolding allVisits
-visits-of s = refl
-
-pub length-visits : (side : Side) (k : ℕ) (ts : List Terminal) → length (visits side k ts) ≡ length ts
-length-visits side k [] = refl
-length-visits side k (t ∷ ts) = ap suc (length-visits side (k + 1) ts)
-
--- and a step goes by what the bytes read as
-pub step-of : (b : List ℕ) (c : Cursor) → stepOf b c ≡ stepAs (c .passed) (read b)
-unfolding stepOf
-step-of b c = refl

@@ -1,3 +1,2 @@
 mod Sections
-mod Steps
 pub mod Laws

@@ -1,10 +1,8 @@
-// The sheet layer: the parts of a sound sheet, and the steps through its terminals.
+// The sheet layer: the parts of a sound sheet.
 
 mod parts;
-mod visits;
 
 use format::Part;
-use format::Side;
 pub use parts::open;
 pub use parts::record_at;
 pub use parts::record_in;
@@ -40,22 +38,4 @@ pub struct Layout {
 pub enum Opened {
     Sound(Layout),
     Refused(Refusal),
-}
-
-// How many terminals of a sheet have been passed, top then bottom.
-pub struct Cursor {
-    pub passed: usize,
-}
-
-// One terminal of a sheet: its side, its place in that side's order from 1, and its record.
-pub struct Visit {
-    pub side: Side,
-    pub place: usize,
-    pub terminal: Record,
-}
-
-// What a step finds: a terminal and the cursor past it, or the end.
-pub enum Step {
-    Terminal(Visit, Cursor),
-    Finished,
 }

@@ -1,11 +1,11 @@
 // What the sheet layer answers, in lines of text.
+use cursor::Cursor;
+use cursor::Step;
 use format::Side;
 use libc::STDOUT_FILENO;
 use printing::number;
 use printing::text;
-use sheet::Cursor;
 use sheet::Entry;
-use sheet::Step;
 use terminal::Record;
 
 pub fn hex(n: u64) {

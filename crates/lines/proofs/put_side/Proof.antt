@@ -4,7 +4,7 @@ use Prim.Native.Nat.{_+_, _-_, _*_, _≤_}
 use lib.ListN.{length, take}
 use native.Mathlib.Omega.{arith}
 use Rattle.format.specs.Parts.{terminalsIn}
-use Rattle.sheet.specs.Visits.{visits}
+use Rattle.cursor.specs.Visits.{visits}
 use Rattle.text.specs.Writing.{Wrote}
 use Rattle.text.proofs.Writes.{wrote-nothing, after, kept, same-text}
 use Rattle.lines.specs.Text.{lines}

@@ -45,9 +45,9 @@ use denote.Triple.Entry.{onEntry}
 use denote.Triple.Spec.{Meets, tripleOf}
 use denote.Triple.Table.{entered, cited}
 use denote.Triple.Walked.{says, Stays, stay-ref, walkOf, goes-ref, Walks, ends-at, walked, walk-meets}
-use Rattle.sheet.specs.declared.Step.{Step}
-use Rattle.sheet.proofs.Step as S
-use Rattle.sheet.proofs.Step.Laws as S′
+use Rattle.cursor.specs.declared.Step.{Step}
+use Rattle.cursor.proofs.Step as S
+use Rattle.cursor.proofs.Step.Laws as S′
 use Rattle.reader.specs.Reader.{passedAfter}
 use Rattle.reader.specs.declared.Reader.{Reader}
 use Rattle.reader.proofs.Asking.{found, Own, StepAt, to-step, apart, Ensured, said}

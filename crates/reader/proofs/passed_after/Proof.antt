@@ -2,7 +2,7 @@
 -- Assumes nothing.
 use mathlib.Core.Path.{sym, ap}
 use borrow.Author.Needs.{needs}
-use Rattle.sheet.specs.declared.Step.{Step}
+use Rattle.cursor.specs.declared.Step.{Step}
 use Rattle.reader.specs.Reader.{passedAfter}
 use Rattle.reader.proofs.passed_after.Statement.{statement}
 use Rattle.reader.proofs.passed_after.Tie as tie

@@ -62,9 +62,9 @@ use denote.Triple.Spec.{Meets, tripleOf}
 use denote.Triple.Table.{entered, cited}
 use denote.Triple.Walked.{Stays, stay-none, stay-none-slice, walkOf, goes-none, goes-none-slice, Walks, ends-at, walked, walk-meets}
 use denote.Exit.{yes}
-use Rattle.sheet.specs.declared.Step.{Step}
-use Rattle.sheet.proofs.Step as S
-use Rattle.sheet.proofs.Step.Laws as S′
+use Rattle.cursor.specs.declared.Step.{Step}
+use Rattle.cursor.proofs.Step as S
+use Rattle.cursor.proofs.Step.Laws as S′
 use Rattle.reader.specs.Reader.{Stepped}
 use Rattle.reader.specs.declared.Reader.{Reader}
 use Rattle.reader.proofs.Reader as T

@@ -9,12 +9,12 @@ use Rattle.format.specs.declared.Side.{Side}
 use Rattle.format.specs.declared.Side.the-variants.{Top, Bottom}
 use Rattle.soundness.specs.Read.{Read, read}
 use Rattle.soundness.specs.Read.Read.{sound, refused}
-use Rattle.sheet.specs.declared.Cursor.{Cursor}
+use Rattle.cursor.specs.declared.Cursor.{Cursor}
 use Rattle.sheet.specs.declared.Entry.{Entry}
 use Rattle.sheet.specs.declared.Entry.the-variants.{Terminal as Found, Nothing}
-use Rattle.sheet.specs.declared.Step.{Step}
-use Rattle.sheet.specs.declared.Step.the-variants.{Terminal as At, Finished}
-use Rattle.sheet.specs.declared.Visit.{Visit}
+use Rattle.cursor.specs.declared.Step.{Step}
+use Rattle.cursor.specs.declared.Step.the-variants.{Terminal as At, Finished}
+use Rattle.cursor.specs.declared.Visit.{Visit}
 
 -- one side's terminals with their places, the first of which is k
 abbrev pub visits : Side → ℕ → List Terminal → List Visit

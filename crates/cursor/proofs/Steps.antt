@@ -12,11 +12,11 @@ use Rattle.format.specs.declared.Side.{Side}
 use Rattle.format.specs.declared.Side.the-variants.{Top, Bottom}
 use Rattle.soundness.specs.Read.{Read}
 use Rattle.soundness.specs.Read.Read.{sound, refused}
-use Rattle.sheet.specs.declared.Cursor.{Cursor}
-use Rattle.sheet.specs.declared.Step.the-variants.{Finished}
-use Rattle.sheet.specs.declared.Visit.{Visit}
+use Rattle.cursor.specs.declared.Cursor.{Cursor}
+use Rattle.cursor.specs.declared.Step.the-variants.{Finished}
+use Rattle.cursor.specs.declared.Visit.{Visit}
 use Rattle.sheet.specs.Parts.{shapeAs, nth, entryOf, entryAs}
-use Rattle.sheet.specs.Visits.{visits, allVisits, visitOf, stepIn, stepAs}
+use Rattle.cursor.specs.Visits.{visits, allVisits, visitOf, stepIn, stepAs}
 
 -- a step within one side, of which the first place is j, and a step past it
 module _ (side : Side) (vs : List Visit) (next : Cursor) where

@@ -1,10 +1,10 @@
--- `sheet::visit` meets its contract: the answer of `record_at` picks the case.
+-- `cursor::found_at` meets its contract: the answer of `record_at` picks the case.
 -- Assumes nothing.
 use mathlib.Core.Path.{_∙_, sym, ap}
-use Rattle.sheet.specs.Visits.{visitOf}
+use Rattle.cursor.specs.Visits.{visitOf}
 use borrow.Author.Needs.{needs}
-use Rattle.sheet.proofs.visits.visit.Statement.{statement}
-use Rattle.sheet.proofs.visits.visit.Tie as tie
+use Rattle.cursor.proofs.found_at.Statement.{statement}
+use Rattle.cursor.proofs.found_at.Tie as tie
 
 returns : tie.Need-returns
 returns c =
@@ -18,5 +18,5 @@ returns-2 c =
     let a = start .args in
     ap (visitOf (a .side) (a .place) (a .next)) (sym (c .enum-told .given .1) ∙ c .before .before .record-at .ensures)
 
-pub visit-spec : {M : Type 1} → statement M
-visit-spec = tie.close (tie.spec (λ c κs. search needs) (λ c. search needs) (λ c. search needs) returns returns-2)
+pub found-at-spec : {M : Type 1} → statement M
+found-at-spec = tie.close (tie.spec (λ c κs. search needs) (λ c. search needs) (λ c. search needs) returns returns-2)

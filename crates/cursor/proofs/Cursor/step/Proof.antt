@@ -1,13 +1,13 @@
--- `sheet::Cursor::step` meets its contract: the shape says on which side the next terminal stands, or that there is none.
+-- `cursor::Cursor::step` meets its contract: the shape says on which side the next terminal stands, or that there is none.
 -- Assumes nothing.
 use mathlib.Core.Path.{_∙_}
 use Rattle.soundness.specs.Read.{read}
 use Rattle.sheet.specs.Parts.{shapeOf, entryAt}
-use Rattle.sheet.specs.Visits.{stepOf}
-use Rattle.sheet.proofs.Steps.{step-top, step-bottom, step-end}
+use Rattle.cursor.specs.Visits.{stepOf}
+use Rattle.cursor.proofs.Steps.{step-top, step-bottom, step-end}
 use borrow.Author.Needs.{needs}
-use Rattle.sheet.proofs.Cursor.step.Statement.{statement}
-use Rattle.sheet.proofs.Cursor.step.Tie as tie
+use Rattle.cursor.proofs.Cursor.step.Statement.{statement}
+use Rattle.cursor.proofs.Cursor.step.Tie as tie
 
 returns : tie.Need-returns
 unfolding shapeOf stepOf
@@ -20,7 +20,7 @@ unfolding shapeOf stepOf entryAt
 returns-2 c =
     let at-shape-of = c .before .before .before .before in
     let start = at-shape-of .before .before in
-    let a = start .args in c .visit .ensures ∙ step-top (a .self .passed) (read (a .s .now))
+    let a = start .args in c .found-at .ensures ∙ step-top (a .self .passed) (read (a .s .now))
     (rw (at-shape-of .shape-of .ensures) at (c .before .if2 .taken))
 
 returns-3 : tie.Need-returns-3
@@ -28,7 +28,7 @@ unfolding shapeOf stepOf entryAt
 returns-3 c =
     let a = c .before .before .before .before .before .before .args in
     let e = c .before .before .before .before .shape-of .ensures in
-    c .visit2 .ensures
+    c .found-at2 .ensures
     ∙ rw e (step-bottom (a .self .passed) (read (a .s .now)) (rw e at (c .before .if2 .left)) (rw e at (c .before .before .if1 .left)))
 
 pub step-spec : {M : Type 1} → statement M
