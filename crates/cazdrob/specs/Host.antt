@@ -7,8 +7,10 @@ use lib.ListN.{length}
 use Rattle.terminal.specs.Refusals as terminal
 use Rattle.soundness.specs.declared.Checked.{Checked}
 use Rattle.soundness.specs.declared.Checked.the-variants.{Sound, Refused}
-use Rattle.measure.specs.Answer as measure
-use Rattle.search.specs.Answer as search
+use Rattle.measured.specs.Numbers as measured
+use Rattle.measure.specs.Answer.{measuredOf}
+use Rattle.searched.specs.Numbers as searched
+use Rattle.search.specs.Answer.{searchedOf, columnsAfter, workAfter}
 
 -- the number of a sheet's refusal; 0 for a sound sheet
 abbrev pub checkNumber : Checked → ℕ
@@ -17,12 +19,12 @@ checkNumber (Refused why) = terminal.numberOf why
 
 -- the promise of a measurement: its number, and the density it leaves
 pub record HostMeasures (bytes columns : List ℕ) (density' r : ℕ) : Type 0 where
-  pub number : r ≡ measure.numberOf (measure.measuredOf bytes columns)
-  pub density : density' ≡ measure.densityOf (measure.measuredOf bytes columns)
+  pub number : r ≡ measured.numberOf (measuredOf bytes columns)
+  pub density : density' ≡ measured.densityOf (measuredOf bytes columns)
 
 -- the promise of a search: its number, the density it leaves, and both buffers at exit
 pub record HostSearches (bytes buffer work buffer' work' : List ℕ) (density' r : ℕ) : Type 0 where
-  pub number : r ≡ search.numberOf (search.searchedOf bytes (length buffer) (length work))
-  pub density : density' ≡ search.densityOf (search.searchedOf bytes (length buffer) (length work))
-  pub columns : buffer' ≡ search.columnsAfter bytes (length work) buffer
-  pub cells : work' ≡ search.workAfter bytes (length buffer) work
+  pub number : r ≡ searched.numberOf (searchedOf bytes (length buffer) (length work))
+  pub density : density' ≡ searched.densityOf (searchedOf bytes (length buffer) (length work))
+  pub columns : buffer' ≡ columnsAfter bytes (length work) buffer
+  pub cells : work' ≡ workAfter bytes (length buffer) work

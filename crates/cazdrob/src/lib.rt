@@ -39,8 +39,8 @@ pub extern "C" fn cazdrob_measure(s: &[u8], columns: &[u8], density: &mut u32) -
     ensures { λ r. ⌜ HostMeasures (now (s .entry)) (now (columns .entry)) (now (density .exit)) r ⌝ }
 {
     let answer = measure::measure(s, columns);
-    *density = measure::density_of(answer);
-    wide(measure::number_of(answer))
+    *density = measured::density_of(answer);
+    wide(measured::number_of(answer))
 }
 
 // Finds the best assignment: 0 with its density and its columns, or the number of a refusal with density 0.
@@ -55,6 +55,6 @@ pub extern "C" fn cazdrob_search(
         (now (columns .exit)) (now (work .exit)) (now (density .exit)) r ⌝ }
 {
     let answer = search::search(s, columns, work);
-    *density = wide(search::density_of(answer));
-    wide(search::number_of(answer))
+    *density = wide(searched::density_of(answer));
+    wide(searched::number_of(answer))
 }

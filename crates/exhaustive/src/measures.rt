@@ -196,8 +196,8 @@ fn measure_one(k: u8, case: Case, page: &Page) -> Measurements {
     let columns = first_columns(&list, lent.columns);
     let r = measure::measure(front(page, lent.size), columns);
     let given = Answer {
-        number: measure::number_of(r),
-        density: measure::density_of(r) as u64,
+        number: measured::number_of(r),
+        density: measured::density_of(r) as u64,
     };
     let wrong = wanted.number != given.number || wanted.density != given.density;
     if wrong && case.shown {

@@ -10,7 +10,7 @@ use enumeration::pins;
 use fixtures::PAGE;
 use fixtures::Page;
 use fixtures::front;
-use search::Searched;
+use searched::Searched;
 ghost use Prim.Native.Nat.{_≤_};
 
 // Whether the sheet has an assignment, and more than one of the least density, how many of the measured lists are
@@ -88,10 +88,10 @@ fn agrees(
     columns: &[u8],
     work: &[u16],
 ) -> bool {
-    if search::number_of(r) != expected.number {
+    if searched::number_of(r) != expected.number {
         return false;
     }
-    if search::density_of(r) as u64 != expected.density {
+    if searched::density_of(r) as u64 != expected.density {
         return false;
     }
     if !buffers::bytes_left(columns, list, expected.written, lent.bytes) {
@@ -111,10 +111,10 @@ fn show(n: u64, lent: Lent, expected: Expected, r: Searched, list: &[u8], column
         list,
         expected.written,
     );
-    let density = search::density_of(r) as u64;
+    let density = searched::density_of(r) as u64;
     printing::outcome(
         b"  search: ",
-        search::number_of(r),
+        searched::number_of(r),
         density,
         columns,
         lent.bytes,

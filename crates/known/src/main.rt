@@ -9,7 +9,7 @@ use fixtures::PAGE;
 use fixtures::Page;
 use fixtures::front;
 use libc::STDIN_FILENO;
-use search::Searched;
+use searched::Searched;
 use std::num::wrapping_add_u64;
 
 // The columns and the work cells of 64 top terminals on 64 columns, and some behind.
@@ -36,16 +36,16 @@ fn find(name: &[u8], s: &[u8], command: Command) -> bool {
     let lent = first_bytes(&mut columns, bytes);
     let answer = search::search(s, lent, first_cells(&mut work, cells));
     report(name, answer, pins, &columns);
-    buffers::left(search::number_of(answer), pins, needed, &columns, &work)
+    buffers::left(searched::number_of(answer), pins, needed, &columns, &work)
 }
 
 fn report(name: &[u8], answer: Searched, pins: usize, columns: &[u8]) {
     printing::text(name);
-    let refusal = search::number_of(answer);
+    let refusal = searched::number_of(answer);
     printing::outcome(
         b": ",
         refusal,
-        search::density_of(answer) as u64,
+        searched::density_of(answer) as u64,
         columns,
         pins,
     );
@@ -57,8 +57,8 @@ fn measured(s: &[u8], command: Command) {
     let list = [low(n[0]), low(n[1]), low(n[2]), low(n[3])];
     let answer = measure::measure(s, &list);
     printing::columns(b"A measured at", &list, 4);
-    let density = measure::density_of(answer) as u64;
-    printing::density(b": ", measure::number_of(answer), density);
+    let density = measured::density_of(answer) as u64;
+    printing::density(b": ", measured::number_of(answer), density);
     printing::text(b"\n");
 }
 

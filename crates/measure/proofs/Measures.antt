@@ -20,8 +20,8 @@ use Rattle.format.specs.Parts.{bytesOf, terminalsIn}
 use Rattle.sheet.specs.Parts.{openedOf, sheetIn}
 use Rattle.soundness.proofs.Laws.{read-sound}
 use Rattle.sheet.proofs.Laws.{opened-refused, Opens, opens}
-use Rattle.measure.specs.declared.Measured.{Measured}
-use Rattle.measure.specs.declared.Measured.the-variants.{Density, Sheet as Unsound, Count, Allowed, Distance}
+use Rattle.measured.specs.declared.Measured.{Measured}
+use Rattle.measured.specs.declared.Measured.the-variants.{Density, Sheet as Unsound, Count, Allowed, Distance}
 use Rattle.measure.specs.Answer.{sideAllowed, allAllowed, sideKept, distancesKept, unless, listMeasured, sheetMeasured, measuredOf}
 use Rattle.density.specs.Counted.{AsksDensity}
 

@@ -16,10 +16,11 @@ use Rattle.channel.proofs.Assignments.{fits-lengths}
 use Rattle.soundness.specs.Read.{read}
 use Rattle.soundness.specs.Read.Read.{sound, refused}
 use Rattle.soundness.proofs.Laws.{read-checked, read-refused}
-use Rattle.measure.specs.declared.Measured.{Measured}
-use Rattle.measure.specs.declared.Measured.the-variants.{Density, Sheet as Unsound, Count, Allowed, Distance}
+use Rattle.measured.specs.declared.Measured.{Measured}
+use Rattle.measured.specs.declared.Measured.the-variants.{Density, Sheet as Unsound, Count, Allowed, Distance}
+use Rattle.measured.specs.Numbers.{numberOf, densityOf}
 use Rattle.measure.specs.Answer.{sideAllowed, allAllowed, laterKept, sideKept, distancesKept, unless}
-use Rattle.measure.specs.Answer.{listMeasured, sheetMeasured, measuredOf, numberOf, densityOf}
+use Rattle.measure.specs.Answer.{listMeasured, sheetMeasured, measuredOf}
 use Rattle.measure.specs.Returned.{Long, Refuses, Returned}
 
 -- two pairs of tests, regrouped

@@ -8,13 +8,12 @@ use lib.Dec.{eqb}
 use Rattle.channel.specs.Sheet.{Terminal, Sheet}
 use Rattle.channel.specs.Assignment.{allows, inRange, topColumns, bottomColumns}
 use Rattle.channel.specs.Density.{density}
-use Rattle.terminal.specs.Refusals as terminal
 use Rattle.soundness.specs.declared.Checked.{Checked}
 use Rattle.soundness.specs.declared.Checked.the-variants.{Sound, Refused}
 use Rattle.soundness.specs.Check.{checkOf}
 use Rattle.soundness.specs.Read.{sheetOf}
-use Rattle.measure.specs.declared.Measured.{Measured}
-use Rattle.measure.specs.declared.Measured.the-variants.{Density, Sheet as Unsound, Count, Allowed, Distance}
+use Rattle.measured.specs.declared.Measured.{Measured}
+use Rattle.measured.specs.declared.Measured.the-variants.{Density, Sheet as Unsound, Count, Allowed, Distance}
 
 -- 13 of one side: each listed column is in its terminal's set
 abbrev pub sideAllowed : List Terminal → List ℕ → Bool
@@ -66,19 +65,3 @@ measuredAs s cs (Refused why) = Unsound why
 -- of a sheet's bytes and a column list
 unfoldable pub measuredOf : List ℕ → List ℕ → Measured
 measuredOf b cs = measuredAs (sheetOf b) cs (checkOf b)
-
--- the number of each refusal; 0 with a density
-abbrev pub numberOf : Measured → ℕ
-numberOf (Density d) = 0
-numberOf (Unsound why) = terminal.numberOf why
-numberOf Count = 12
-numberOf Allowed = 13
-numberOf Distance = 14
-
--- "Each refusal carries density 0"
-abbrev pub densityOf : Measured → ℕ
-densityOf (Density d) = d
-densityOf (Unsound why) = 0
-densityOf Count = 0
-densityOf Allowed = 0
-densityOf Distance = 0

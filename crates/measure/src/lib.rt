@@ -1,28 +1,16 @@
 // The density of a given column list. The sheet is read only through the sheet layer.
 
-mod answer;
 mod rules;
 
-pub use answer::density_of;
-pub use answer::number_of;
 use density::list_density;
+use measured::Measured;
 use rules::all_allowed;
 use rules::out_of_range;
 use sheet::Opened;
-use terminal::Refusal;
 ghost use mathlib.Core.Path.{_≡_};
 ghost use Rattle.sheet.specs.Parts.{sheetIn};
 ghost use Rattle.measure.specs.Answer.{measuredOf, listMeasured};
 ghost use Rattle.density.specs.Counted.{AsksDensity};
-
-// The answer of a measurement; `number_of` and `density_of` give its number and its density.
-pub enum Measured {
-    Density(u32),
-    Sheet(Refusal),
-    Count,
-    Allowed,
-    Distance,
-}
 
 // Measures a column list: 1 to 8 of the sheet, then 12, 13 and 14 of the list, otherwise its density.
 pub fn measure(s: &[u8], columns: &[u8]) -> Measured

@@ -6,7 +6,7 @@ use fixtures::PAGE;
 use fixtures::Page;
 use fixtures::front;
 use search::Both;
-use search::Searched;
+use searched::Searched;
 
 // The columns of a sheet's four terminals and the work cells of six columns, and some behind.
 const BYTES: usize = 8;
@@ -104,17 +104,23 @@ fn write(form: Form, page: &mut Page) -> usize {
 
 // A search's line; whether it left its buffers as the rules say.
 fn answer(name: &[u8], answer: Searched, form: Form, columns: &[u8], work: &[u16]) -> bool {
-    let refusal = search::number_of(answer);
-    printing::outcome(name, refusal, search::density_of(answer) as u64, columns, 4);
+    let refusal = searched::number_of(answer);
+    printing::outcome(
+        name,
+        refusal,
+        searched::density_of(answer) as u64,
+        columns,
+        4,
+    );
     buffers::left(refusal, 4, form.needed, columns, work)
 }
 
 fn compare(rule: Rule, both: Both) {
     let first = both.first;
     let second = both.second;
-    let found = search::number_of(first) == 0 && search::number_of(second) == 0;
-    let d = search::density_of(first);
-    let e = search::density_of(second);
+    let found = searched::number_of(first) == 0 && searched::number_of(second) == 0;
+    let d = searched::density_of(first);
+    let e = searched::density_of(second);
     match rule {
         Rule::NoHigher => printing::yes_or_no(b"  the second no higher: ", found && e <= d),
         Rule::Same => printing::yes_or_no(b"  the same density: ", found && e == d),

@@ -12,9 +12,10 @@ use Rattle.channel.specs.Sheet.{Sheet}
 use Rattle.soundness.specs.Read.{sheetOf}
 use Rattle.sheet.specs.Parts.{shapeOf}
 use Rattle.sheet.proofs.Laws.{shape-read}
-use Rattle.search.specs.declared.Searched.{Searched}
-use Rattle.search.specs.declared.Searched.the-variants as searched
-use Rattle.search.specs.Answer.{numberOf, densityOf, Searches}
+use Rattle.searched.specs.declared.Searched.{Searched}
+use Rattle.searched.specs.declared.Searched.the-variants as searched
+use Rattle.searched.specs.Numbers.{numberOf, densityOf}
+use Rattle.search.specs.Answer.{Searches}
 use Rattle.search.proofs.Found.{columns-found, Finds, finds, zero-found}
 use Rattle.text.specs.Writing.{Wrote}
 use Rattle.lines.specs.Text.{lines}

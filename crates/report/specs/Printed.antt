@@ -11,9 +11,10 @@ use Rattle.channel.specs.Best.{Found, best}
 use Rattle.channel.specs.Best.Found.{none, found}
 use Rattle.soundness.specs.Read.{sheetOf}
 use Rattle.cursor.specs.Visits.{allVisits}
-use Rattle.search.specs.declared.Searched.{Searched}
-use Rattle.search.specs.declared.Searched.the-variants as searched
-use Rattle.search.specs.Answer.{searchedOf, numberOf}
+use Rattle.searched.specs.declared.Searched.{Searched}
+use Rattle.searched.specs.declared.Searched.the-variants as searched
+use Rattle.searched.specs.Numbers.{numberOf}
+use Rattle.search.specs.Answer.{searchedOf}
 use Rattle.lines.specs.Text.{field, newline, lines}
 
 -- the names: "density ", "refused "

@@ -28,9 +28,9 @@ pub fn print(input: &[u8], out: &mut [u8; ROOM]) -> usize
     let mut columns = [0u8; 128];
     let mut work = [0u16; 30000];
     let answer = search::search(input, &mut columns, &mut work);
-    let number = search::number_of(answer);
+    let number = searched::number_of(answer);
     if number == 0 {
-        return put_result(input, search::density_of(answer), &columns, out);
+        return put_result(input, searched::density_of(answer), &columns, out);
     }
     put_refusal(out, number as usize)
 }

@@ -24,10 +24,11 @@ use Rattle.soundness.specs.Check.{checkOf}
 use Rattle.soundness.specs.Read.{read, sheetOf}
 use Rattle.soundness.specs.Read.Read.{sound}
 use Rattle.soundness.proofs.Laws.{read-checked, read-sound, sound-read}
-use Rattle.search.specs.declared.Searched.{Searched}
-use Rattle.search.specs.declared.Searched.the-variants as searched
+use Rattle.searched.specs.declared.Searched.{Searched}
+use Rattle.searched.specs.declared.Searched.the-variants as searched
+use Rattle.searched.specs.Numbers.{numberOf, densityOf}
 use Rattle.search.specs.Answer.{pinsNeeded, cellsNeeded, answerAs, answerIn, answerIf}
-use Rattle.search.specs.Answer.{searchedOf, columnsAfter, numberOf, densityOf, Searches}
+use Rattle.search.specs.Answer.{searchedOf, columnsAfter, Searches}
 use Rattle.search.specs.Returned.{Gives, LongEnough}
 
 -- an assignment has a column for each terminal

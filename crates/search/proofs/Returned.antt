@@ -14,10 +14,11 @@ use Rattle.channel.proofs.Best.{best-answers}
 use Rattle.soundness.specs.Read.{read, sheetOf}
 use Rattle.soundness.specs.Read.Read.{sound, refused}
 use Rattle.soundness.proofs.Laws.{read-sound, read-checked, read-refused}
-use Rattle.search.specs.declared.Searched.{Searched}
-use Rattle.search.specs.declared.Searched.the-variants as searched
+use Rattle.searched.specs.declared.Searched.{Searched}
+use Rattle.searched.specs.declared.Searched.the-variants as searched
+use Rattle.searched.specs.Numbers.{numberOf, densityOf}
 use Rattle.search.specs.Answer.{pinsNeeded, cellsNeeded, answerAs, answerIn, searchedOf, columnsIf}
-use Rattle.search.specs.Answer.{columnsAfter, workIf, workAfter, numberOf, densityOf, Searches}
+use Rattle.search.specs.Answer.{columnsAfter, workIf, workAfter, Searches}
 use Rattle.search.specs.Returned.{Refuses, LongEnough, Decides, Returned}
 use Rattle.search.proofs.Found.{answers-best, is-best, gives, columns-behind}
 

@@ -14,8 +14,9 @@ use Rattle.channel.specs.Pairs.{LeastKept}
 use Rattle.channel.proofs.Best.{best-answers}
 use Rattle.channel.proofs.Pairs.{least-kept}
 use Rattle.soundness.proofs.Laws.{read-sound}
-use Rattle.search.specs.declared.Searched.{Searched}
-use Rattle.search.specs.Answer.{numberOf, densityOf, Searches}
+use Rattle.searched.specs.declared.Searched.{Searched}
+use Rattle.searched.specs.Numbers.{numberOf, densityOf}
+use Rattle.search.specs.Answer.{Searches}
 use Rattle.search.specs.Returned.{LongEnough}
 use Rattle.search.specs.Pair.{Kept}
 use Rattle.search.proofs.Found.{density-found, gives}

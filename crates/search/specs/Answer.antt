@@ -9,15 +9,14 @@ use lib.Dec.{ltb}
 use Rattle.channel.specs.Sheet.{Sheet}
 use Rattle.channel.specs.Best.{Found, best}
 use Rattle.channel.specs.Best.Found.{none, found}
-use Rattle.terminal.specs.Refusals as terminal
 use Rattle.soundness.specs.declared.Checked.{Checked}
 use Rattle.soundness.specs.declared.Checked.the-variants.{Sound, Refused}
 use Rattle.soundness.specs.Check.{checkOf}
 use Rattle.soundness.specs.Read.{sheetOf}
 use Rattle.sheet.specs.Parts.{cellsOf}
 use Rattle.solve.specs.Buffers.{withColumns, cleared}
-use Rattle.search.specs.declared.Searched.{Searched}
-use Rattle.search.specs.declared.Searched.the-variants as searched
+use Rattle.searched.specs.declared.Searched.{Searched}
+use Rattle.searched.specs.declared.Searched.the-variants as searched
 
 -- "a column buffer of at least p+q bytes, and a work buffer of at least (p+1)(q+1)(L+1)² 16-bit cells"
 abbrev pub pinsNeeded : Sheet → ℕ
@@ -67,22 +66,6 @@ workIf searched.NoAssignment s old = cleared (cellsNeeded s) old
 -- the work buffer at exit
 unfoldable pub workAfter : List ℕ → ℕ → List ℕ → List ℕ
 workAfter bytes columns old = workIf (searchedOf bytes columns (length old)) (sheetOf bytes) old
-
--- the number of an answer, 0 with a density
-abbrev pub numberOf : Searched → ℕ
-numberOf (searched.Found d) = 0
-numberOf (searched.Sheet why) = terminal.numberOf why
-numberOf searched.Columns = 9
-numberOf searched.Cells = 10
-numberOf searched.NoAssignment = 11
-
--- "Each refusal carries density 0"
-abbrev pub densityOf : Searched → ℕ
-densityOf (searched.Found d) = d
-densityOf (searched.Sheet why) = 0
-densityOf searched.Columns = 0
-densityOf searched.Cells = 0
-densityOf searched.NoAssignment = 0
 
 -- the promise of a search: its answer, the columns and the cells at exit
 pub record Searches (bytes buffer work buffer' work' : List ℕ) (r : Searched) : Type 0 where

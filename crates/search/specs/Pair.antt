@@ -10,7 +10,8 @@ use Rattle.channel.specs.Sheet.{Sheet}
 use Rattle.channel.specs.Assignment.{assignment?}
 use Rattle.channel.specs.Pairs.{Loosened, Lengthened}
 use Rattle.search.specs.declared.Both.{Both}
-use Rattle.search.specs.Answer.{numberOf, densityOf, Searches}
+use Rattle.searched.specs.Numbers.{numberOf, densityOf}
+use Rattle.search.specs.Answer.{Searches}
 use Rattle.search.specs.Returned.{Gives, LongEnough}
 
 -- "if the second is the first loosened and the first has an assignment, both searches give one, the second's least density no

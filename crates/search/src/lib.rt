@@ -1,25 +1,12 @@
 // The search for the best assignment of a sheet.
-mod answer;
-
-pub use answer::density_of;
-pub use answer::number_of;
 use pass::Outcome;
+use searched::Searched;
 use sheet::Layout;
 use sheet::Opened;
-use terminal::Refusal;
 ghost use mathlib.Core.Path.{_≡_};
 ghost use Rattle.sheet.specs.Parts.{openedOf};
 ghost use Rattle.search.specs.Answer.{Searches};
 ghost use Rattle.search.specs.Pair.{SearchesBoth};
-
-// The answer of a search; `number_of` and `density_of` give its number and its density.
-pub enum Searched {
-    Found(u8),
-    Sheet(Refusal),
-    Columns,
-    Cells,
-    NoAssignment,
-}
 
 // The answers of two searches.
 pub struct Both {

@@ -13,8 +13,10 @@ use Rattle.channel.specs.Pairs.{Loosened, Lengthened}
 use Rattle.soundness.specs.Read.{sheetOf, read}
 use Rattle.soundness.specs.Read.Read.{sound}
 use Rattle.sheet.specs.Parts.{shapeOf}
-use Rattle.measure.specs.Answer as measure
-use Rattle.search.specs.Answer as search
+use Rattle.measured.specs.Numbers as measured
+use Rattle.measure.specs.Answer.{measuredOf}
+use Rattle.searched.specs.Numbers as searched
+use Rattle.search.specs.Answer.{searchedOf, columnsAfter}
 use Rattle.starred.specs.Sheets.{A, straight, noTerminals, twoTop, emptySet, threePins}
 
 -- a column buffer before a search: no byte of it is a column
@@ -24,9 +26,9 @@ unwritten n = replicate n 255
 -- a search with so many column bytes and work cells: its number, its density, and its column buffer at exit
 abbrev pub Searched : List ℕ → ℕ → ℕ → ℕ → ℕ → List ℕ → Type 0
 Searched b bytes cells n d columns =
-    (search.numberOf (search.searchedOf b bytes cells) ≡ n)
-    × (search.densityOf (search.searchedOf b bytes cells) ≡ d)
-    × (search.columnsAfter b cells (unwritten bytes) ≡ columns)
+    (searched.numberOf (searchedOf b bytes cells) ≡ n)
+    × (searched.densityOf (searchedOf b bytes cells) ≡ d)
+    × (columnsAfter b cells (unwritten bytes) ≡ columns)
 
 -- it gives density d and these columns
 abbrev pub Gives : List ℕ → ℕ → ℕ → ℕ → List ℕ → Type 0
@@ -38,7 +40,7 @@ Refuses b bytes cells n = Searched b bytes cells n 0 (unwritten bytes)
 
 -- a measurement: its number, 0 for no refusal, and its density
 abbrev pub Measures : List ℕ → List ℕ → ℕ → ℕ → Type 0
-Measures b cs n d = (measure.numberOf (measure.measuredOf b cs) ≡ n) × (measure.densityOf (measure.measuredOf b cs) ≡ d)
+Measures b cs n d = (measured.numberOf (measuredOf b cs) ≡ n) × (measured.densityOf (measuredOf b cs) ≡ d)
 
 -- the word of a column list, by the numbers of its letters
 abbrev pub ranks : List ℕ → List ℕ → List ℕ

@@ -2,7 +2,7 @@
 -- Assumes nothing.
 use borrow.Author.Needs.{needs}
 use mathlib.Core.Path.{_∙_, ap}
-use Rattle.measure.specs.Answer.{numberOf, densityOf}
+use Rattle.measured.specs.Numbers.{numberOf, densityOf}
 use Rattle.cazdrob.proofs.cazdrob_measure.Statement.{statement}
 use Rattle.cazdrob.proofs.cazdrob_measure.Tie as tie
 

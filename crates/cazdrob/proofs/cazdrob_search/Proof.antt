@@ -2,7 +2,7 @@
 -- Assumes nothing.
 use borrow.Author.Needs.{needs}
 use mathlib.Core.Path.{_∙_, ap}
-use Rattle.search.specs.Answer.{numberOf, densityOf}
+use Rattle.searched.specs.Numbers.{numberOf, densityOf}
 use Rattle.cazdrob.proofs.cazdrob_search.Statement.{statement}
 use Rattle.cazdrob.proofs.cazdrob_search.Tie as tie
 

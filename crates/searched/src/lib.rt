@@ -1,7 +1,17 @@
-// An answer in the rules' numbers.
-use crate::Searched;
+// The answer of a search, and its number and density by document 01's refusal list.
+use terminal::Refusal;
 ghost use mathlib.Core.Path.{_≡_};
-ghost use Rattle.search.specs.Answer.{numberOf, densityOf};
+ghost use Rattle.searched.specs.Numbers.{numberOf, densityOf};
+
+// The least density, or why there is none: the sheet is refused, the column buffer or the work buffer is too short, or the sheet has no
+// assignment.
+pub enum Searched {
+    Found(u8),
+    Sheet(Refusal),
+    Columns,
+    Cells,
+    NoAssignment,
+}
 
 // The number of a refusal; 0 with a density.
 pub fn number_of(answer: Searched) -> u8

@@ -1,7 +1,17 @@
-// An answer in the rules' numbers.
-use crate::Measured;
+// The answer of a measurement, and its number and density by document 01's refusal list.
+use terminal::Refusal;
 ghost use mathlib.Core.Path.{_≡_};
-ghost use Rattle.measure.specs.Answer.{numberOf, densityOf};
+ghost use Rattle.measured.specs.Numbers.{numberOf, densityOf};
+
+// The density of a column list, or why it has none: the sheet is refused, the list is not p+q long, a column is not allowed, or a
+// distance is out of range.
+pub enum Measured {
+    Density(u32),
+    Sheet(Refusal),
+    Count,
+    Allowed,
+    Distance,
+}
 
 // The number of a refusal; 0 with a density.
 pub fn number_of(answer: Measured) -> u8
