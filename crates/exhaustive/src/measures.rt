@@ -14,6 +14,7 @@ use fixtures::Page;
 use fixtures::front;
 use format::RECORD;
 use std::num::wrapping_add_u64;
+use trailer::TRAILER;
 
 // The lists that are measured on a sheet, by number. Where there is no assignment, the first list of allowed columns
 // stands for the best one.
@@ -58,7 +59,7 @@ struct Lent {
 
 fn lent_for(k: u8, sheet: Sheet) -> Lent {
     let columns = pins(sheet);
-    let size = RECORD * (columns + 1);
+    let size = RECORD * columns + TRAILER;
     match k {
         LONGER => Lent {
             size,
@@ -143,7 +144,7 @@ fn all_allowed(sheet: Sheet, list: List) -> bool {
 // The refusal by the program's own reading, in the order of the rules, and 0 where there is none.
 fn refusal(lent: Lent, sheet: Sheet, list: List) -> u8 {
     let columns = pins(sheet);
-    if lent.size != RECORD * (columns + 1) {
+    if lent.size != RECORD * columns + TRAILER {
         // a trailer without its last byte is too short by itself, and has no mark behind a record
         return if columns == 0 { 1 } else { 2 };
     }

@@ -11,7 +11,7 @@ use lib.Seq.{length-take-le, take-all}
 use lib.Dec.{ltb}
 use borrow.Author.Tests.{ltb-true, ltb-false}
 use Rattle.channel.specs.Sheet.{noTerminal}
-use Rattle.format.specs.declared.Part.{Part}
+use Rattle.trailer.specs.declared.Part.{Part}
 use Rattle.format.specs.Format.{recordSize, terminalAt, terminalsFrom}
 use Rattle.format.specs.Parts.{bytesOf, terminalsIn}
 

@@ -6,7 +6,7 @@ use mathlib.Core.List.{List}
 use lib.ListN.{length, take, drop}
 use denote.Ref.{RefT, now}
 use Rattle.channel.specs.Sheet.{Terminal}
-use Rattle.format.specs.declared.Part.{Part}
+use Rattle.trailer.specs.declared.Part.{Part}
 use Rattle.format.specs.Format.{recordSize, terminalsFrom}
 
 -- the caller's own slice from an offset on, and not a copy: the part starts in the same memory, so many bytes further

@@ -1,12 +1,14 @@
-// The format layer: where the fields of a sheet's bytes stand. No other layer reads a byte of a sheet or says how long a record is.
+// The sections of a sheet's bytes and the records in them. No other layer reads a byte of a record or says how long one is.
 
+use little::read_number;
 use terminal::Record;
+use trailer::Part;
 ghost use mathlib.Core.Path.{_≡_};
-ghost use Prim.Native.Nat.{_+_, _*_, _^_, _≤_, _<_, min};
+ghost use Prim.Native.Nat.{_+_, _*_, _≤_, min};
 ghost use lib.ListN.{length, getD};
 ghost use Rattle.channel.specs.Sheet.{noTerminal};
 ghost use Rattle.terminal.specs.Terminal.{recordOf};
-ghost use Rattle.format.specs.Format.{little, recordSize, terminalAt, hasMark, TrailerRead};
+ghost use Rattle.format.specs.Format.{recordSize, terminalAt};
 ghost use Rattle.format.specs.Parts.{OwnPart, offsetOf, bytesOf, terminalsIn};
 
 // The two sides of the channel.
@@ -15,76 +17,7 @@ pub enum Side {
     Bottom,
 }
 
-// Where one side's section stands in the sheet: its offset and its number of terminals.
-pub struct Part {
-    pub at: usize,
-    pub count: usize,
-}
-
-// The numbers of the trailer.
-pub struct Trailer {
-    pub top: Part,
-    pub bottom: Part,
-    pub columns: usize,
-}
-
 pub const RECORD: usize = 12;
-
-pub const TRAILER: usize = 12;
-
-// The little-endian number in the n bytes from `at` on.
-fn read_number(s: &[u8], at: usize, n: usize) -> u64
-    requires { ⌜ (at + n ≤ length (now s)) × (n ≤ 8) ⌝ }
-    ensures { λ r. ⌜ (r ≡ little n (now (s .entry)) at) × (r < 2 ^ (8 * n)) ⌝ }
-{
-    let mut value: u64 = 0;
-    let mut left = n;
-    while 0 < left {
-        left -= 1;
-        value = value * 256 + s[at + left] as u64;
-    }
-    value
-}
-
-// Whether the last two bytes are the mark.
-pub fn has_mark(s: &[u8], mark: &[u8; 2]) -> bool
-    ensures { λ r. ⌜ r ≡ hasMark (now (s .entry)) (now (mark .entry)) ⌝ }
-{
-    let n = s.len();
-    if n < 2 {
-        return false;
-    }
-    s[n - 2] == mark[0] && s[n - 1] == mark[1]
-}
-
-// The trailer's numbers, from its bytes at the end, and all 0 where the file is shorter than a trailer.
-pub fn read_trailer(s: &[u8]) -> Trailer
-    ensures { λ r. ⌜ TrailerRead (now (s .entry)) r ⌝ }
-{
-    if s.len() < TRAILER {
-        let none = Part { at: 0, count: 0 };
-        return Trailer {
-            top: none,
-            bottom: none,
-            columns: 0,
-        };
-    }
-    let at = s.len() - TRAILER;
-    let top = Part {
-        at: read_number(s, at, 2) as usize,
-        count: read_number(s, at + 2, 2) as usize,
-    };
-    let bottom = Part {
-        at: read_number(s, at + 4, 2) as usize,
-        count: read_number(s, at + 6, 2) as usize,
-    };
-    let columns = read_number(s, at + 8, 2) as usize;
-    Trailer {
-        top,
-        bottom,
-        columns,
-    }
-}
 
 fn smaller(a: usize, b: usize) -> usize
     ensures { λ r. ⌜ r ≡ min a b ⌝ }

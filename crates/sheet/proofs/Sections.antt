@@ -9,11 +9,12 @@ use lib.ListN.{length, getD}
 use Rattle.channel.specs.Sheet.{Terminal, noTerminal, Sheet, terminals}
 use Rattle.terminal.specs.declared.Refusal.{Refusal}
 use Rattle.terminal.specs.Terminal.{recordOf}
-use Rattle.format.specs.declared.Part.{Part}
-use Rattle.format.specs.declared.Trailer.{Trailer}
+use Rattle.trailer.specs.declared.Part.{Part}
+use Rattle.trailer.specs.declared.Trailer.{Trailer}
 use Rattle.format.specs.declared.Side.{Side}
 use Rattle.format.specs.declared.Side.the-variants.{Top, Bottom}
-use Rattle.format.specs.Format.{recordSize, terminalsFrom, trailerOf, ofSide, partOf}
+use Rattle.trailer.specs.Trailer.{trailerOf}
+use Rattle.format.specs.Format.{recordSize, terminalsFrom, ofSide, partOf}
 use Rattle.format.specs.Parts.{bytesOf, offsetOf, terminalsIn}
 use Rattle.format.proofs.Records.{part-terminals}
 use Rattle.soundness.specs.declared.Checked.{Checked}

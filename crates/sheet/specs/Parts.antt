@@ -8,8 +8,9 @@ use Rattle.channel.specs.Sheet as channel
 use Rattle.terminal.specs.Terminal.{recordOf}
 use Rattle.format.specs.declared.Side.{Side}
 use Rattle.format.specs.declared.Side.the-variants.{Top, Bottom}
-use Rattle.format.specs.declared.Trailer.{Trailer}
-use Rattle.format.specs.Format.{trailerOf, partOf}
+use Rattle.trailer.specs.declared.Trailer.{Trailer}
+use Rattle.trailer.specs.Trailer.{trailerOf}
+use Rattle.format.specs.Format.{partOf}
 use Rattle.format.specs.Parts.{bytesOf, terminalsIn}
 use Rattle.soundness.specs.declared.Checked.{Checked}
 use Rattle.soundness.specs.declared.Checked.the-variants.{Sound, Refused}

@@ -2,7 +2,6 @@
 
 mod parts;
 
-use format::Part;
 pub use parts::open;
 pub use parts::record_at;
 pub use parts::record_in;
@@ -10,6 +9,7 @@ pub use parts::section;
 pub use parts::shape_of;
 use terminal::Record;
 use terminal::Refusal;
+use trailer::Part;
 
 // The record at a place, or nothing where there is no such place.
 pub enum Entry {

@@ -15,9 +15,10 @@ use Rattle.terminal.specs.declared.Refusal.{Refusal}
 use Rattle.terminal.specs.declared.Refusal.the-variants.{Short, Mark, Length, Count, Layout}
 use Rattle.format.specs.declared.Side.{Side}
 use Rattle.format.specs.declared.Side.the-variants.{Top, Bottom}
-use Rattle.format.specs.declared.Part.{Part}
-use Rattle.format.specs.declared.Trailer.{Trailer}
-use Rattle.format.specs.Format.{recordSize, trailerSize, trailerOf, partOf, hasMark, CP}
+use Rattle.trailer.specs.declared.Part.{Part}
+use Rattle.trailer.specs.declared.Trailer.{Trailer}
+use Rattle.trailer.specs.Trailer.{trailerSize, trailerOf, hasMark, CP}
+use Rattle.format.specs.Format.{recordSize, partOf}
 use Rattle.format.specs.Parts.{bytesOf, terminalsIn}
 use Rattle.soundness.specs.declared.Checked.{Checked}
 use Rattle.soundness.specs.declared.Checked.the-variants.{Sound, Refused}

@@ -13,7 +13,7 @@ use Rattle.terminal.specs.declared.Refusal.{Refusal}
 use Rattle.terminal.specs.declared.Refusal.the-variants.{Net, Distance, Beyond}
 use Rattle.terminal.specs.Refusals.{numberOf}
 use Rattle.format.specs.declared.Side.the-variants.{Top, Bottom}
-use Rattle.format.specs.Format.{trailerOf}
+use Rattle.trailer.specs.Trailer.{trailerOf}
 use Rattle.format.proofs.Records.{part-terminals}
 use Rattle.soundness.specs.declared.Checked.{Checked}
 use Rattle.soundness.specs.declared.Checked.the-variants.{Sound, Refused}

@@ -8,9 +8,10 @@ use lib.Dec.{ltb, eqb}
 use Rattle.channel.specs.Sheet.{Terminal, namesAbove, distances?}
 use Rattle.terminal.specs.declared.Refusal.{Refusal}
 use Rattle.terminal.specs.declared.Refusal.the-variants.{Short, Mark, Length, Count, Layout, Net, Distance, Beyond}
-use Rattle.format.specs.declared.Part.{Part}
-use Rattle.format.specs.declared.Trailer.{Trailer}
-use Rattle.format.specs.Format.{recordSize, trailerSize, hasMark, CP, trailerOf}
+use Rattle.trailer.specs.declared.Part.{Part}
+use Rattle.trailer.specs.declared.Trailer.{Trailer}
+use Rattle.trailer.specs.Trailer.{trailerSize, hasMark, CP, trailerOf}
+use Rattle.format.specs.Format.{recordSize}
 use Rattle.format.specs.Parts.{bytesOf, terminalsIn}
 use Rattle.soundness.specs.declared.Checked.{Checked}
 use Rattle.soundness.specs.declared.Checked.the-variants.{Sound, Refused}

@@ -4,7 +4,7 @@ use Prim.Native.Nat.{ℕ}
 use mathlib.Core.List.{List}
 use Rattle.channel.specs.Sheet.{Sheet, sheetWith}
 use Rattle.terminal.specs.Refusals.{numberOf}
-use Rattle.format.specs.Format.{trailerOf}
+use Rattle.trailer.specs.Trailer.{trailerOf}
 use Rattle.soundness.specs.declared.Checked.{Checked}
 use Rattle.soundness.specs.declared.Checked.the-variants.{Sound, Refused}
 use Rattle.soundness.specs.Check.{terminalsOf, checkOf}

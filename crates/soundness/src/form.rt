@@ -1,12 +1,12 @@
 // 1 to 5: the file's length, its mark and its trailer.
 use crate::Checked;
-use format::Part;
 use format::RECORD;
-use format::TRAILER;
-use format::Trailer;
-use format::has_mark;
-use format::read_trailer;
 use terminal::Refusal;
+use trailer::Part;
+use trailer::TRAILER;
+use trailer::Trailer;
+use trailer::has_mark;
+use trailer::read_trailer;
 ghost use mathlib.Core.Path.{_≡_};
 ghost use Prim.Native.Nat.{_≤_};
 ghost use Rattle.soundness.specs.Check.{formOf, trailerCheck, follows, laidOut};

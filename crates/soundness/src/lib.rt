@@ -5,9 +5,9 @@ mod sides;
 
 use form::check_form;
 use format::part_in;
-use format::read_trailer;
 use sides::check_side;
 use terminal::Refusal;
+use trailer::read_trailer;
 ghost use mathlib.Core.Path.{_≡_};
 ghost use Rattle.soundness.specs.Check.{checkOf};
 

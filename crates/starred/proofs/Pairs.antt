@@ -11,7 +11,9 @@ use Rattle.channel.specs.Word.{word, columnsOf, words}
 use Rattle.channel.specs.Best.{bestOf, best}
 use Rattle.channel.specs.Pairs.{Looser, BothFree}
 use Rattle.channel.proofs.Sets.{allows-below}
-use Rattle.format.specs.Format.{little, terminalAt, terminalsFrom, trailerOf, hasMark}
+use Rattle.little.specs.Little.{little}
+use Rattle.trailer.specs.Trailer.{trailerOf, hasMark}
+use Rattle.format.specs.Format.{terminalAt, terminalsFrom}
 use Rattle.format.specs.Parts.{bytesOf, terminalsIn}
 use Rattle.soundness.specs.Check.{laidOut, trailerCheck, formOf, terminalCheck, checkOf}
 use Rattle.soundness.specs.Read.{sheetOf, read}

@@ -5,7 +5,9 @@ use Rattle.channel.specs.Assignment.{fits, topColumns, bottomColumns, assignmen
 use Rattle.channel.specs.Density.{crosses, netsOf, columnDensity, density}
 use Rattle.channel.specs.Word.{word, columnsOf, words}
 use Rattle.channel.specs.Best.{bestOf, best}
-use Rattle.format.specs.Format.{little, terminalAt, terminalsFrom, trailerOf, hasMark}
+use Rattle.little.specs.Little.{little}
+use Rattle.trailer.specs.Trailer.{trailerOf, hasMark}
+use Rattle.format.specs.Format.{terminalAt, terminalsFrom}
 use Rattle.format.specs.Parts.{bytesOf, terminalsIn}
 use Rattle.soundness.specs.Check.{laidOut, trailerCheck, formOf, terminalCheck, checkOf}
 use Rattle.soundness.specs.Read.{sheetOf, read}

@@ -1,7 +1,7 @@
 -- `soundness::check` meets its contract: each answer is that of the first of the three checks that refuses.
 -- Assumes nothing.
 use mathlib.Core.Path.{_≡_, sym, _∙_}
-use Rattle.format.specs.Format.{trailerOf}
+use Rattle.trailer.specs.Trailer.{trailerOf}
 use Rattle.soundness.specs.declared.Checked.the-variants.{Sound}
 use Rattle.soundness.specs.Check.{formOf}
 use Rattle.soundness.proofs.Checks.{formed, form-refuses, top-refuses, bottom-answers}

@@ -2,7 +2,7 @@
 -- Assumes nothing.
 use mathlib.Core.Path.{_≡_}
 use borrow.Author.Needs.{needs}
-use Rattle.format.specs.Format.{trailerOf}
+use Rattle.trailer.specs.Trailer.{trailerOf}
 use Rattle.sheet.specs.Parts.{layoutOf}
 use Rattle.sheet.proofs.Sections.{sound-form, sound-limits}
 use Rattle.sheet.proofs.parts.layout_of.Statement.{statement}

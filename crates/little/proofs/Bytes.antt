@@ -1,4 +1,4 @@
--- Laws of the definitions of specs/Format.antt.
+-- Laws of a number in bytes.
 -- Assumes nothing.
 use Prim.Native.Nat.{ℕ, suc, _+_, _-_, _*_, _^_, _≤_, _<_}
 use mathlib.Core.Path.{_≡_, refl, _∙_, ap, ap₂}
@@ -8,7 +8,7 @@ use native.Mathlib.Nat.{add-comm, mul-comm, sub-self, lt-of-lt-of-le}
 use lib.ListN.{getD}
 use lib.Arith.{digits-lt}
 use lib.Pow.{pow-add, pow-mono}
-use Rattle.format.specs.Format.{little}
+use Rattle.little.specs.Little.{little}
 
 -- one byte more at the front
 little-suc : (n : ℕ) (b : List ℕ) (i : ℕ) → little (suc n) b i ≡ getD b i 0 + 256 * little n b (suc i)

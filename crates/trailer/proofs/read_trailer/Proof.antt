@@ -1,10 +1,10 @@
--- `format::read_trailer` meets its contract: each number is what its call gave.
+-- `trailer::read_trailer` meets its contract: each number is what its call gave.
 -- Assumes nothing.
 use native.Mathlib.Omega.{arith}
-use Rattle.format.specs.Format.{trailerOf}
+use Rattle.trailer.specs.Trailer.{trailerOf}
 use borrow.Author.Needs.{needs}
-use Rattle.format.proofs.read_trailer.Statement.{statement}
-use Rattle.format.proofs.read_trailer.Tie as tie
+use Rattle.trailer.proofs.read_trailer.Statement.{statement}
+use Rattle.trailer.proofs.read_trailer.Tie as tie
 
 returns : tie.Need-returns
 returns c = record { long = λ h. absurd (omega arith); short = λ h. cc }

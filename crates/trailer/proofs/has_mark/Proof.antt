@@ -1,10 +1,10 @@
--- `format::has_mark` meets its contract: the first test decides the length, the second the first letter, and the third is the other.
+-- `trailer::has_mark` meets its contract: the first test decides the length, the second the first letter, and the third is the other.
 -- Assumes nothing.
 use borrow.Author.Tests.{eq-eqb, ne-eqb, le-leb, lt-leb}
-use Rattle.format.specs.Format.{hasMark}
+use Rattle.trailer.specs.Trailer.{hasMark}
 use borrow.Author.Needs.{needs}
-use Rattle.format.proofs.has_mark.Statement.{statement}
-use Rattle.format.proofs.has_mark.Tie as tie
+use Rattle.trailer.proofs.has_mark.Statement.{statement}
+use Rattle.trailer.proofs.has_mark.Tie as tie
 
 returns : tie.Need-returns
 unfolding hasMark

@@ -1,4 +1,4 @@
--- `format::read_number` meets its contract. The loop's invariant: the value is the number in the bytes passed, and is below 2 to the
+-- `little::read_number` meets its contract. The loop's invariant: the value is the number in the bytes passed, and is below 2 to the
 -- number of their bits.
 -- The measure is how many bytes are left.
 -- Assumes nothing.
@@ -8,10 +8,10 @@ use native.Mathlib.Omega.{arith}
 use lib.ListN.{getD}
 use lib.Dec.{lit<}
 use lib.Pow.{pow-pos}
-use Rattle.format.specs.Format.{little}
-use Rattle.format.proofs.Fields.{little-none, little-all, little-down, byte-more, byte-fits}
-use Rattle.format.proofs.read_number.Statement.{statement}
-use Rattle.format.proofs.read_number.Tie as tie
+use Rattle.little.specs.Little.{little}
+use Rattle.little.proofs.Bytes.{little-none, little-all, little-down, byte-more, byte-fits}
+use Rattle.little.proofs.read_number.Statement.{statement}
+use Rattle.little.proofs.read_number.Tie as tie
 
 abbrev Inv-loop : tie.InvT-loop
 Inv-loop s at n value₀ left₀ value left =
