@@ -4,9 +4,7 @@ use printing::number;
 use std::num::wrapping_add_u64;
 use trials::Trial;
 
-mod draws;
 mod measures;
-mod sheets;
 mod trials;
 
 const SHEETS: u64 = 100000;

@@ -1,11 +1,11 @@
 // The library's measurements on one sheet against the program's own reading of the rules. Most of the measured lists
 // need not be assignments.
-use crate::draws::bits;
-use crate::draws::draw;
-use crate::sheets::single;
 use crate::trials::Case;
 use crate::trials::less;
 use buffers::first_columns;
+use drawn::bits;
+use drawn::draw;
+use drawn::single;
 use enumeration::List;
 use enumeration::ROOM;
 use enumeration::Sheet;

@@ -1,9 +1,8 @@
 // One sheet: the library's search against the exhaustive one, and its measurements against the program's own reading.
-use crate::draws::draw;
 use crate::measures;
-use crate::sheets;
 use buffers::first_bytes;
 use buffers::first_cells;
+use drawn::draw;
 use enumeration::Best;
 use enumeration::Sheet;
 use enumeration::pins;
@@ -190,10 +189,10 @@ fn answers_agree(case: Case, lent: Lent, page: &Page, work: &mut [u16]) -> bool
 
 // Every call on the sheet.
 pub fn try_sheet(n: u64, work: &mut [u16], shown: bool) -> Trial {
-    let plan = sheets::plan_of(n);
-    let sheet = sheets::sheet_of(n, plan);
+    let plan = drawn::plan_of(n);
+    let sheet = drawn::sheet_of(n, plan);
     let mut page = [0u8; PAGE];
-    let size = sheets::write_sheet(plan, sheet, &mut page);
+    let size = drawn::write_sheet(plan, sheet, &mut page);
     let best = enumeration::find_best(sheet);
     let case = Case {
         n,

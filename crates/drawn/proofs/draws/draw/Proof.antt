@@ -1,11 +1,11 @@
--- `exhaustive::draws::draw` is safe: a remainder is below its divisor, so the sum is at most `high`.
+-- `drawn::draws::draw` is safe: a remainder is below its divisor, so the sum is at most `high`.
 -- Assumes nothing.
 use native.Mathlib.Omega.{arith}
 use native.Mathlib.Nat.{mod-lt}
 use Prim.Native.Nat.{_%_, _-_, _+_, _<_}
 use borrow.Author.Needs.{needs}
-use Rattle.exhaustive.proofs.draws.draw.Statement.{statement}
-use Rattle.exhaustive.proofs.draws.draw.Tie as tie
+use Rattle.drawn.proofs.draws.draw.Statement.{statement}
+use Rattle.drawn.proofs.draws.draw.Tie as tie
 
 cast-result : tie.Need-cast-result
 cast-result c =

@@ -1,9 +1,9 @@
--- `exhaustive::sheets::sheet_of` is safe and ends: a turn for each terminal.
+-- `drawn::sheets::sheet_of` is safe and ends: a turn for each terminal.
 -- Assumes nothing.
 use borrow.Author.Needs.{needs}
 use Prim.Native.Nat.{_-_}
-use Rattle.exhaustive.proofs.sheets.sheet_of.Statement.{statement}
-use Rattle.exhaustive.proofs.sheets.sheet_of.Tie as tie
+use Rattle.drawn.proofs.sheets.sheet_of.Statement.{statement}
+use Rattle.drawn.proofs.sheets.sheet_of.Tie as tie
 
 abbrev Inv-loop : tie.InvT-loop
 Inv-loop n plan terminals₀ digits₀ t₀ terminals digits t = Unit {0}

@@ -1,9 +1,9 @@
--- `exhaustive::sheets::write_sheet` is safe and ends: a turn for each terminal.
+-- `drawn::sheets::write_sheet` is safe and ends: a turn for each terminal.
 -- Assumes nothing.
 use borrow.Author.Needs.{needs}
 use Prim.Native.Nat.{_-_}
-use Rattle.exhaustive.proofs.sheets.write_sheet.Statement.{statement}
-use Rattle.exhaustive.proofs.sheets.write_sheet.Tie as tie
+use Rattle.drawn.proofs.sheets.write_sheet.Statement.{statement}
+use Rattle.drawn.proofs.sheets.write_sheet.Tie as tie
 
 abbrev Inv-loop : tie.InvT-loop
 Inv-loop plan page₀ sheet end t₀ page t = Unit {0}
