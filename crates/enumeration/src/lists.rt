@@ -3,6 +3,7 @@ use crate::List;
 use crate::ROOM;
 use crate::Sheet;
 use crate::pins;
+use std::num::wrapping_sub_u64;
 ghost use Prim.Native.Nat.{_≤_};
 
 // How many ways there are to choose from a set of so many columns; the empty set has one, a column that is not allowed.
@@ -37,18 +38,13 @@ pub fn count_lists(sheet: Sheet) -> u64 {
 fn column(set: u64, k: u64) -> u8 {
     let mut rest = set;
     let mut left = k;
-    let mut c: u8 = 1;
-    while c < 64 {
-        if rest % 2 == 1 {
-            if left == 0 {
-                return c;
-            }
-            left -= 1;
-        }
-        rest = rest / 2;
-        c += 1;
+    while 0 < left {
+        // without its lowest column
+        rest = rest & wrapping_sub_u64(rest, 1);
+        left -= 1;
     }
-    64
+    let before = u64::trailing_zeros(rest);
+    if before < 64 { before as u8 + 1 } else { 64 }
 }
 
 // The list of this number: its digits, to the bases of the sets' sizes, say which column of each set is taken.
