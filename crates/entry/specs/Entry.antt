@@ -1,7 +1,7 @@
 -- What the table holds: which places the pins can reach under a density bound, in the table's own numbers. Row x of plane (i, j)
 -- is for the last top pin in column x + i, and bit y of it for the last bottom pin in column y + j.
 -- Assumes nothing.
-use Prim.Native.Nat.{ℕ, zero, suc, _+_, _-_, _*_}
+use Prim.Native.Nat.{ℕ, zero, suc, _+_, _-_}
 use mathlib.Core.List.{List}
 use mathlib.Core.Bool.{Bool, false, _&&_, _||_}
 use lib.Dec.{leb, ltb, eqb}
@@ -9,11 +9,6 @@ use Rattle.channel.specs.Below.{anyBelow}
 use Rattle.arrays.specs.Rules.{rangeAt, allowedAt}
 use Rattle.arrays.specs.Loads.{loadAt}
 use Rattle.bits.specs.Bits.{bitOf}
-use Rattle.cells.specs.Cells.{wordAt}
-
--- bit y of row x of the plane whose cells start at `base`
-abbrev pub held : List ℕ → ℕ → ℕ → ℕ → Bool
-held work base x y = bitOf (wordAt work (base + 4 * x)) y
 
 -- one pin moves to x, the other stays at y: the load is within the bound, x is allowed, and some place before x is in range
 abbrev pub alone : ℕ → ℕ → ℕ → ℕ → (ℕ → ℕ → Bool) → ℕ → ℕ → Bool

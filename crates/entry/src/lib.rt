@@ -9,17 +9,17 @@ use bits::either;
 use bits::from;
 use bits::single;
 use cells::read_word;
+use rows::rows;
 use steps::steps;
-ghost use Prim.Native.Nat.{ℕ, suc, _+_, _-_, _*_, _≤_, _<_};
+ghost use Prim.Native.Nat.{ℕ, _+_, _-_, _≤_, _<_};
 ghost use mathlib.Core.Path.{_≡_};
-ghost use mathlib.Core.Bool.{_&&_};
 ghost use lib.ListN.{length};
 ghost use lib.Dec.{leb};
-ghost use Rattle.channel.specs.Below.{anyBelow};
 ghost use Rattle.arrays.specs.Rules.{pins};
 ghost use Rattle.arrays.specs.Loads.{loadBytes, loadAt};
 ghost use Rattle.bits.specs.Bits.{bitOf};
-ghost use Rattle.entry.specs.Entry.{held, startPart, topPart, bottomPart, bothPart, entry};
+ghost use Rattle.rows.specs.Held.{held};
+ghost use Rattle.entry.specs.Entry.{startPart, topPart, bottomPart, bothPart, entry};
 ghost use Rattle.entry.specs.Asks.{AsksEntry, AsksArrays};
 
 // The table's measures: the rows of a plane, the planes for one i, and the cells of a plane and of those
@@ -37,22 +37,6 @@ pub struct Place {
     pub j: usize,
     pub x: usize,
     pub at: usize,
-}
-
-// The union of the rows up to x of the plane at `base`, each row that is a step of `by` before x.
-fn rows(work: &[u16], base: usize, x: usize, by: u64) -> u64
-    requires { ⌜ (base + 4 * x + 4 ≤ length (now work)) × (x < 64) ⌝ }
-    ensures { λ r. ⌜ ((y : ℕ) → bitOf r y ≡ anyBelow (suc x) (λ (n : ℕ). bitOf by (x - n) && held (now (work .entry)) base n y)) ⌝ }
-{
-    let mut found: u64 = 0;
-    let mut n = 0;
-    while n <= x {
-        if bit(by, x - n) {
-            found = either(read_word(work, base + 4 * n), found);
-        }
-        n += 1;
-    }
-    found
 }
 
 // Whether the load of a column is within the bound.

@@ -18,7 +18,8 @@ use Rattle.cells.proofs.Words.{length-put, drop-put, cell-put, word-put-same, w
 use Rattle.entry.specs.declared.Grid.{Grid}
 use Rattle.arrays.specs.Rules.{allowedAt, rangeAt}
 use Rattle.arrays.specs.Loads.{loadAt}
-use Rattle.entry.specs.Entry.{held, startPart, topPart, bottomPart, bothPart, entry, bottomsOnly, withTops, cell}
+use Rattle.rows.specs.Held.{held}
+use Rattle.entry.specs.Entry.{startPart, topPart, bottomPart, bothPart, entry, bottomsOnly, withTops, cell}
 use Rattle.table.specs.Planes.{Measures, Earlier, SameGaps, Filled, AsksTable, baseOf}
 use Rattle.entry.specs.Asks.{AsksEntry}
 

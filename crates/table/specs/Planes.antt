@@ -10,7 +10,8 @@ use lib.Dec.{leb}
 use Rattle.channel.specs.Below.{anyBelow}
 use Rattle.bits.specs.Bits.{bitOf, inWord}
 use Rattle.entry.specs.declared.Grid.{Grid}
-use Rattle.entry.specs.Entry.{held, cell}
+use Rattle.rows.specs.Held.{held}
+use Rattle.entry.specs.Entry.{cell}
 
 -- a plane has its rows, at most 64, in its cells
 pub record Measures (g : Grid) : Type 0 where

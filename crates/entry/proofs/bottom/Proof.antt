@@ -7,7 +7,7 @@ use native.Mathlib.Omega.{arith}
 use Rattle.bits.specs.Bits.{bitOf}
 use Rattle.steps.specs.Stepped.{stepped}
 use Rattle.bits.proofs.Laws.{bit-zero}
-use Rattle.entry.specs.Entry.{held}
+use Rattle.rows.specs.Held.{held}
 use Rattle.entry.proofs.Parts.{no-bottom, bottom-heavy, bottom-found, all-behind, from-behind, and-true}
 use borrow.Author.Needs.{needs}
 use Rattle.entry.proofs.bottom.Statement.{statement}

@@ -8,7 +8,7 @@ use Rattle.channel.specs.Below.{anyBelow}
 use Rattle.bits.specs.Bits.{bitOf}
 use Rattle.steps.specs.Stepped.{stepped}
 use Rattle.bits.proofs.Laws.{bit-zero}
-use Rattle.entry.specs.Entry.{held}
+use Rattle.rows.specs.Held.{held}
 use Rattle.entry.proofs.Parts.{no-top-pair, no-bottom-pair, pair-apart, pair-heavy, pair-barred, pair-found}
 use borrow.Author.Needs.{needs}
 use Rattle.entry.proofs.pair.Statement.{statement}

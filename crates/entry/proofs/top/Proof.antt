@@ -7,7 +7,7 @@ use native.Mathlib.Omega.{arith}
 use Rattle.channel.specs.Below.{anyBelow}
 use Rattle.bits.specs.Bits.{bitOf}
 use Rattle.bits.proofs.Laws.{bit-zero}
-use Rattle.entry.specs.Entry.{held}
+use Rattle.rows.specs.Held.{held}
 use Rattle.entry.proofs.Parts.{no-top, top-left, top-heavy, top-barred, top-found}
 use borrow.Author.Needs.{needs}
 use Rattle.entry.proofs.top.Statement.{statement}

@@ -10,7 +10,7 @@ use lib.ListN.{length}
 use lib.Dec.{leb}
 use Rattle.channel.specs.Below.{anyBelow}
 use Rattle.bits.specs.Bits.{bitOf, inWord}
-use Rattle.entry.specs.Entry.{held}
+use Rattle.rows.specs.Held.{held}
 use Rattle.table.specs.Planes.{baseOf, heldAt, meeting}
 use Rattle.table.proofs.Planes.{row-room}
 use Rattle.table.proofs.Unions.{none-before, row-misses, row-skipped, row-meets, none-meets}

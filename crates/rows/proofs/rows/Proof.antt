@@ -1,4 +1,4 @@
--- `entry::rows` meets its contract. The loop's invariant: what is found is in one of the rows passed. The measure is how many are left.
+-- `rows::rows` meets its contract. The loop's invariant: what is found is in one of the rows passed. The measure is how many are left.
 -- Assumes nothing.
 use Prim.Native.Nat.{ℕ, suc, _≤_, _+_, _-_}
 use mathlib.Core.Path.{_≡_, _∙_, sym, ap, ap₂}
@@ -10,9 +10,9 @@ use Rattle.channel.specs.Below.{anyBelow}
 use Rattle.channel.proofs.Below.{anyBelow-taken, anyBelow-left}
 use Rattle.bits.specs.Bits.{bitOf}
 use Rattle.bits.proofs.Laws.{bit-zero}
-use Rattle.entry.specs.Entry.{held}
-use Rattle.entry.proofs.rows.Statement.{statement}
-use Rattle.entry.proofs.rows.Tie as tie
+use Rattle.rows.specs.Held.{held}
+use Rattle.rows.proofs.rows.Statement.{statement}
+use Rattle.rows.proofs.rows.Tie as tie
 
 abbrev Inv-loop : tie.InvT-loop
 Inv-loop work base x by found₀ n₀ found n =
