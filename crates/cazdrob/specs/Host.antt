@@ -4,9 +4,9 @@ use Prim.Native.Nat.{ℕ}
 use mathlib.Core.Path.{_≡_}
 use mathlib.Core.List.{List}
 use lib.ListN.{length}
-use Rattle.terminal.specs.Refusals as terminal
-use Rattle.soundness.specs.declared.Checked.{Checked}
-use Rattle.soundness.specs.declared.Checked.the-variants.{Sound, Refused}
+use Rattle.refusals.specs.Refusals as refusals
+use Rattle.refusals.specs.declared.Checked.{Checked}
+use Rattle.refusals.specs.declared.Checked.the-variants.{Sound, Refused}
 use Rattle.measured.specs.Numbers as measured
 use Rattle.measure.specs.Answer.{measuredOf}
 use Rattle.searched.specs.Numbers as searched
@@ -15,7 +15,7 @@ use Rattle.search.specs.Answer.{searchedOf, columnsAfter, workAfter}
 -- the number of a sheet's refusal; 0 for a sound sheet
 abbrev pub checkNumber : Checked → ℕ
 checkNumber Sound = 0
-checkNumber (Refused why) = terminal.numberOf why
+checkNumber (Refused why) = refusals.numberOf why
 
 -- the promise of a measurement: its number, and the density it leaves
 pub record HostMeasures (bytes columns : List ℕ) (density' r : ℕ) : Type 0 where

@@ -1,6 +1,6 @@
 // The library's face for hosts: C functions that answer with document 01's numbers. include/cazdrob.h declares them. None asks
 // anything of its caller but what the types of its parameters say.
-use soundness::Checked;
+use refusals::Checked;
 ghost use mathlib.Core.Path.{_≡_};
 ghost use Rattle.soundness.specs.Check.{checkOf};
 ghost use Rattle.sheet.specs.Parts.{shapeOf};
@@ -14,7 +14,7 @@ pub extern "C" fn cazdrob_check(s: &[u8]) -> u32
     let checked = soundness::check(s);
     match checked {
         Checked::Sound => 0,
-        Checked::Refused(why) => wide(terminal::number_of(why)),
+        Checked::Refused(why) => wide(refusals::number_of(why)),
     }
 }
 

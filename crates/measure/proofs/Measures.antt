@@ -11,7 +11,7 @@ use borrow.Author.Tests.{eq-eqb, ne-eqb, not-true, not-false}
 use Rattle.channel.specs.Sheet.{Terminal, Sheet, sheetWith}
 use Rattle.channel.specs.Assignment.{topColumns, bottomColumns}
 use Rattle.channel.specs.Density.{density}
-use Rattle.terminal.specs.declared.Refusal.{Refusal}
+use Rattle.refusals.specs.declared.Refusal.{Refusal}
 use Rattle.soundness.specs.Read.{sheetOf}
 use Rattle.sheet.specs.declared.Layout.{Layout}
 use Rattle.sheet.specs.declared.Opened.the-variants as opened

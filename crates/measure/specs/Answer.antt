@@ -8,8 +8,8 @@ use lib.Dec.{eqb}
 use Rattle.channel.specs.Sheet.{Terminal, Sheet}
 use Rattle.channel.specs.Assignment.{allows, inRange, topColumns, bottomColumns}
 use Rattle.channel.specs.Density.{density}
-use Rattle.soundness.specs.declared.Checked.{Checked}
-use Rattle.soundness.specs.declared.Checked.the-variants.{Sound, Refused}
+use Rattle.refusals.specs.declared.Checked.{Checked}
+use Rattle.refusals.specs.declared.Checked.the-variants.{Sound, Refused}
 use Rattle.soundness.specs.Check.{checkOf}
 use Rattle.soundness.specs.Read.{sheetOf}
 use Rattle.measured.specs.declared.Measured.{Measured}

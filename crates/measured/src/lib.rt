@@ -1,5 +1,5 @@
 // The answer of a measurement, and its number and density by document 01's refusal list.
-use terminal::Refusal;
+use refusals::Refusal;
 ghost use mathlib.Core.Path.{_≡_};
 ghost use Rattle.measured.specs.Numbers.{numberOf, densityOf};
 
@@ -19,7 +19,7 @@ pub fn number_of(answer: Measured) -> u8
 {
     match answer {
         Measured::Density(_) => 0,
-        Measured::Sheet(why) => terminal::number_of(why),
+        Measured::Sheet(why) => refusals::number_of(why),
         Measured::Count => 12,
         Measured::Allowed => 13,
         Measured::Distance => 14,

@@ -1,7 +1,7 @@
 // The test programs' answers, in lines of text.
 use format::Side;
 use libc::STDOUT_FILENO;
-use soundness::Checked;
+use refusals::Checked;
 use terminal::Record;
 
 pub fn text(t: &[u8]) {
@@ -28,7 +28,7 @@ pub fn verdict(name: &[u8], sound: &[u8], s: &[u8]) {
     text(name);
     match soundness::check(s) {
         Checked::Sound => text(sound),
-        Checked::Refused(why) => number(b": refused ", terminal::number_of(why) as u64),
+        Checked::Refused(why) => number(b": refused ", refusals::number_of(why) as u64),
     }
     text(b"\n");
 }

@@ -7,7 +7,7 @@ use native.Mathlib.Omega.{arith}
 use lib.ListN.{length, take, drop}
 use lib.Seq.{take-add, length-take-le}
 use Rattle.channel.specs.Sheet.{Sheet}
-use Rattle.terminal.specs.declared.Refusal.{Refusal}
+use Rattle.refusals.specs.declared.Refusal.{Refusal}
 use Rattle.format.specs.declared.Side.the-variants.{Top, Bottom}
 use Rattle.soundness.specs.Read.{Read, sheetOf, read}
 use Rattle.soundness.specs.Read.Read.{sound, refused}

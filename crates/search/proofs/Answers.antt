@@ -9,8 +9,8 @@ use borrow.Author.Tests.{lt-ltb, le-ltb}
 use Rattle.channel.specs.Sheet.{Terminal, Sheet}
 use Rattle.channel.specs.Best.{Found, best}
 use Rattle.channel.specs.Best.Found.{none, found}
-use Rattle.terminal.specs.declared.Refusal.{Refusal}
-use Rattle.soundness.specs.declared.Checked.{Checked}
+use Rattle.refusals.specs.declared.Refusal.{Refusal}
+use Rattle.refusals.specs.declared.Checked.{Checked}
 use Rattle.soundness.specs.Read.{sheetOf}
 use Rattle.sheet.specs.declared.Layout.{Layout}
 use Rattle.sheet.specs.declared.Opened.the-variants as opened

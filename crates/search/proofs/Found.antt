@@ -15,11 +15,11 @@ use Rattle.channel.specs.Best.{Found, best, IsBest, Answers}
 use Rattle.channel.specs.Best.Found.{none, found}
 use Rattle.channel.proofs.Best.{best-answers}
 use Rattle.channel.proofs.Assignments.{fits-lengths}
-use Rattle.terminal.specs.declared.Refusal.{Refusal}
-use Rattle.terminal.specs.declared.Refusal.the-variants as refusal
-use Rattle.terminal.specs.Refusals as terminal
-use Rattle.soundness.specs.declared.Checked.{Checked}
-use Rattle.soundness.specs.declared.Checked.the-variants as checked
+use Rattle.refusals.specs.declared.Refusal.{Refusal}
+use Rattle.refusals.specs.declared.Refusal.the-variants as refusal
+use Rattle.refusals.specs.Refusals as refusals
+use Rattle.refusals.specs.declared.Checked.{Checked}
+use Rattle.refusals.specs.declared.Checked.the-variants as checked
 use Rattle.soundness.specs.Check.{checkOf}
 use Rattle.soundness.specs.Read.{read, sheetOf}
 use Rattle.soundness.specs.Read.Read.{sound}
@@ -119,7 +119,7 @@ module _ (b : List ℕ) (k m d : ℕ) where
   finds = by-check (checkOf b) refl
 
 -- an answer with the number 0 is a density
-sheet-number : (why : Refusal) → terminal.numberOf why ≡ 0 → ⊥
+sheet-number : (why : Refusal) → refusals.numberOf why ≡ 0 → ⊥
 sheet-number refusal.Short e = omega arith
 sheet-number refusal.Mark e = omega arith
 sheet-number refusal.Length e = omega arith

@@ -1,14 +1,14 @@
 -- The number and the density of a search's answer (document 01, "The refusal list").
 -- Assumes nothing.
 use Prim.Native.Nat.{ℕ}
-use Rattle.terminal.specs.Refusals as terminal
+use Rattle.refusals.specs.Refusals as refusals
 use Rattle.searched.specs.declared.Searched.{Searched}
 use Rattle.searched.specs.declared.Searched.the-variants.{Found, Sheet as Unsound, Columns, Cells, NoAssignment}
 
 -- the number of an answer, 0 with a density
 abbrev pub numberOf : Searched → ℕ
 numberOf (Found d) = 0
-numberOf (Unsound why) = terminal.numberOf why
+numberOf (Unsound why) = refusals.numberOf why
 numberOf Columns = 9
 numberOf Cells = 10
 numberOf NoAssignment = 11

@@ -1,5 +1,5 @@
 // The answer of a search, and its number and density by document 01's refusal list.
-use terminal::Refusal;
+use refusals::Refusal;
 ghost use mathlib.Core.Path.{_≡_};
 ghost use Rattle.searched.specs.Numbers.{numberOf, densityOf};
 
@@ -19,7 +19,7 @@ pub fn number_of(answer: Searched) -> u8
 {
     match answer {
         Searched::Found(_) => 0,
-        Searched::Sheet(why) => terminal::number_of(why),
+        Searched::Sheet(why) => refusals::number_of(why),
         Searched::Columns => 9,
         Searched::Cells => 10,
         Searched::NoAssignment => 11,

@@ -10,7 +10,7 @@ use Rattle.format.specs.declared.Side.{Side}
 use Rattle.format.specs.declared.Side.the-variants.{Top, Bottom}
 use Rattle.format.specs.Format.{ofSide}
 use Rattle.format.specs.Parts.{bytesOf, terminalsIn}
-use Rattle.soundness.specs.declared.Checked.the-variants.{Sound}
+use Rattle.refusals.specs.declared.Checked.the-variants.{Sound}
 use Rattle.soundness.specs.Check.{checkOf}
 use Rattle.soundness.specs.Read.{sheetOf, read}
 use Rattle.soundness.specs.Read.Read.{sound}

@@ -7,7 +7,7 @@ use native.Mathlib.Omega.{arith}
 use native.Mathlib.Nat.{min-eq-left}
 use lib.ListN.{length, getD}
 use Rattle.channel.specs.Sheet.{Terminal, noTerminal, Sheet, terminals}
-use Rattle.terminal.specs.declared.Refusal.{Refusal}
+use Rattle.refusals.specs.declared.Refusal.{Refusal}
 use Rattle.terminal.specs.Terminal.{recordOf}
 use Rattle.trailer.specs.declared.Part.{Part}
 use Rattle.trailer.specs.declared.Trailer.{Trailer}
@@ -17,8 +17,8 @@ use Rattle.trailer.specs.Trailer.{trailerOf}
 use Rattle.format.specs.Format.{recordSize, terminalsFrom, ofSide, partOf}
 use Rattle.format.specs.Parts.{bytesOf, offsetOf, terminalsIn}
 use Rattle.format.proofs.Records.{part-terminals}
-use Rattle.soundness.specs.declared.Checked.{Checked}
-use Rattle.soundness.specs.declared.Checked.the-variants.{Sound, Refused}
+use Rattle.refusals.specs.declared.Checked.{Checked}
+use Rattle.refusals.specs.declared.Checked.the-variants.{Sound, Refused}
 use Rattle.soundness.specs.Check.{terminalsOf, checkOf}
 use Rattle.soundness.specs.Read.{Read, sheetOf, read}
 use Rattle.soundness.specs.Read.Read.{sound, refused}
@@ -27,7 +27,8 @@ use Rattle.sheet.specs.declared.Layout.{Layout}
 use Rattle.sheet.specs.declared.Opened.the-variants.{Sound as Laid, Refused as Unsound}
 use Rattle.sheet.specs.Parts.{noShape, shape, shapeOf, layoutOf, openedAs, openedOf, sectionOf}
 use Rattle.sheet.specs.Parts.{sectionAt, nth, entryOf, entryIn, sideOf, entryAs, entryAt}
-use Rattle.soundness.proofs.Checks.{Formed, whole}
+use Rattle.form.proofs.Forms.{Formed}
+use Rattle.soundness.proofs.Checks.{whole}
 use Rattle.soundness.proofs.Laws.{sound-read, refused-read}
 
 -- the record at a place that there is, and nothing behind the last

@@ -12,8 +12,8 @@ use Rattle.trailer.specs.declared.Trailer.{Trailer}
 use Rattle.trailer.specs.Trailer.{trailerOf}
 use Rattle.format.specs.Format.{partOf}
 use Rattle.format.specs.Parts.{bytesOf, terminalsIn}
-use Rattle.soundness.specs.declared.Checked.{Checked}
-use Rattle.soundness.specs.declared.Checked.the-variants.{Sound, Refused}
+use Rattle.refusals.specs.declared.Checked.{Checked}
+use Rattle.refusals.specs.declared.Checked.the-variants.{Sound, Refused}
 use Rattle.soundness.specs.Check.{checkOf}
 use Rattle.soundness.specs.Read.{Read, read}
 use Rattle.soundness.specs.Read.Read.{sound, refused}

@@ -7,8 +7,8 @@ pub use parts::record_at;
 pub use parts::record_in;
 pub use parts::section;
 pub use parts::shape_of;
+use refusals::Refusal;
 use terminal::Record;
-use terminal::Refusal;
 use trailer::Part;
 
 // The record at a place, or nothing where there is no such place.

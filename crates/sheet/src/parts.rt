@@ -7,7 +7,7 @@ use format::Side;
 use format::count_in;
 use format::part_in;
 use format::terminal_at;
-use soundness::Checked;
+use refusals::Checked;
 use soundness::check;
 use trailer::Part;
 use trailer::read_trailer;

@@ -1,28 +1,26 @@
--- Laws of the sheet check: one terminal more, and what a sound sheet's trailer says.
+-- Laws of the sheet check: one terminal more, and what a sound sheet's trailer and sides say.
 -- Assumes nothing.
-use Prim.Native.Nat.{ℕ, _+_, _*_, _≤_, _<_}
-use mathlib.Core.Path.{_≡_, refl, sym, _∙_, ap}
+use Prim.Native.Nat.{ℕ, _+_, _<_}
+use mathlib.Core.Path.{_≡_, sym, _∙_, ap}
 use mathlib.Core.List.{List}
-use mathlib.Core.Bool.{Bool, true, false, not, _||_, true≢false, and-eq-true-iff}
-use native.Mathlib.Omega.{arith}
+use mathlib.Core.Bool.{Bool, true, false}
 use native.Mathlib.Numerals.{add-one}
 use lib.ListN.{length, getD, drop}
 use lib.Seq.{drop-cons}
-use lib.Dec.{eqb, ltb}
-use borrow.Author.Tests.{ltb-false, eqb-true, eqb-false, not-false}
 use Rattle.channel.specs.Sheet.{Terminal, noTerminal}
-use Rattle.terminal.specs.declared.Refusal.{Refusal}
-use Rattle.terminal.specs.declared.Refusal.the-variants.{Short, Mark, Length, Count, Layout}
+use Rattle.refusals.specs.declared.Refusal.{Refusal}
+use Rattle.refusals.specs.declared.Checked.{Checked}
+use Rattle.refusals.specs.declared.Checked.the-variants.{Sound, Refused}
+use Rattle.refusals.specs.Refusals.{_orElse_}
+use Rattle.refusals.proofs.Refused.{orElse-sound}
+use Rattle.trailer.specs.declared.Trailer.{Trailer}
+use Rattle.trailer.specs.Trailer.{trailerOf}
 use Rattle.format.specs.declared.Side.{Side}
 use Rattle.format.specs.declared.Side.the-variants.{Top, Bottom}
-use Rattle.trailer.specs.declared.Part.{Part}
-use Rattle.trailer.specs.declared.Trailer.{Trailer}
-use Rattle.trailer.specs.Trailer.{trailerSize, trailerOf, hasMark, CP}
-use Rattle.format.specs.Format.{recordSize, partOf}
+use Rattle.format.specs.Format.{partOf}
 use Rattle.format.specs.Parts.{bytesOf, terminalsIn}
-use Rattle.soundness.specs.declared.Checked.{Checked}
-use Rattle.soundness.specs.declared.Checked.the-variants.{Sound, Refused}
-use Rattle.soundness.specs.Check.{refuse, _orElse_, follows, laidOut, trailerCheck, formOf}
+use Rattle.form.specs.Form.{formOf}
+use Rattle.form.proofs.Forms.{Formed, formed}
 use Rattle.soundness.specs.Check.{terminalCheck, sideCheck, terminalsOf, checkOf}
 
 -- the check of the terminals that are left is that of the first, then of those behind it
@@ -31,75 +29,6 @@ pub side-more :
     → sideCheck columns isFirst (drop i ts)
     ≡ (terminalCheck columns isFirst (getD ts i noTerminal) orElse sideCheck columns false (drop (i + 1) ts))
 side-more columns isFirst ts i h = rw (add-one i) (ap (sideCheck columns isFirst) (drop-cons ts i noTerminal h))
-
--- where nothing is refused, neither of two checks refuses
-pub orElse-sound : (a b : Checked) → (a orElse b) ≡ Sound → (a ≡ Sound) × (b ≡ Sound)
-orElse-sound Sound b h = (refl, h)
-orElse-sound (Refused why) b h = let z : _≡_ {A = ℕ} 0 1 = cc in absurd (omega arith)
-
-pub refuse-sound : (t : Bool) (why : Refusal) → refuse t why ≡ Sound → t ≡ false
-refuse-sound true why h = let z : _≡_ {A = ℕ} 0 1 = cc in absurd (omega arith)
-refuse-sound false why h = refl
-
--- neither of two tests holds where their disjunction does not
-or-false : (a b : Bool) → (a || b) ≡ false → (a ≡ false) × (b ≡ false)
-or-false true b h = absurd (true≢false h)
-or-false false b h = (refl, h)
-
--- of two sections that fill a file before its trailer, the one that follows and the one that starts it end in the file
-module _ (first second : Part) (len : ℕ) (size : len ≡ recordSize * (first .count + second .count) + trailerSize) where
-  follows-room : follows first second ≡ true
-      → (first .at + recordSize * first .count ≤ len) × (second .at + recordSize * second .count ≤ len)
-  follows-room h =
-      let (z, e) = and-eq-true-iff (eqb (first .at) 0) (eqb (second .at) (recordSize * first .count)) .0 h in
-      let z' : first .at ≡ 0 = eqb-true (first .at) 0 z in
-      let e' : second .at ≡ recordSize * first .count = eqb-true (second .at) (recordSize * first .count) e in
-      (omega arith, omega arith)
-
-laid-out-room :
-    (top bottom : Part) (len : ℕ) → laidOut top bottom len ≡ true
-    → (top .at + recordSize * top .count ≤ len) × (bottom .at + recordSize * bottom .count ≤ len)
-unfolding laidOut
-laid-out-room top bottom len h =
-    let (n, either) =
-    and-eq-true-iff (eqb len (recordSize * (top .count + bottom .count) + trailerSize))
-    (follows top bottom || follows bottom top) .0 h in
-    by-order (eqb-true len (recordSize * (top .count + bottom .count) + trailerSize) n) (follows top bottom) refl either
-  where
-    by-order :
-        len ≡ recordSize * (top .count + bottom .count) + trailerSize → (t : Bool) → follows top bottom ≡ t
-        → (t || follows bottom top) ≡ true
-        → (top .at + recordSize * top .count ≤ len) × (bottom .at + recordSize * bottom .count ≤ len)
-    by-order size true e either = follows-room top bottom len size e
-    by-order size false e either =
-        let (b, t) = follows-room bottom top len (omega arith) either in
-        (t, b)
-
--- what 1 to 5 leave of the trailer: its bytes are there, its numbers are within their limits, and both sections lie in the file
-pub record Formed (b : List ℕ) : Type 0 where
-  pub long : trailerSize ≤ length b
-  pub columns : (0 < trailerOf b .columns) × (trailerOf b .columns ≤ 64)
-  pub count : (side : Side) → partOf (trailerOf b) side .count ≤ 64
-  pub room : (side : Side) → partOf (trailerOf b) side .at + recordSize * partOf (trailerOf b) side .count ≤ length b
-
-pub formed : (b : List ℕ) → formOf b ≡ Sound → Formed b
-unfolding formOf trailerCheck
-formed b h =
-    let t = trailerOf b in
-    let (short, h₂) = orElse-sound (refuse (ltb (length b) trailerSize) Short) _ h in
-    let (mark, h₃) = orElse-sound (refuse (not (hasMark b CP)) Mark) _ h₂ in
-    let (columns, h₄) = orElse-sound (refuse (eqb (t .columns) 0 || ltb 64 (t .columns)) Length) _ h₃ in
-    let (counts, layout) = orElse-sound (refuse (ltb 64 (t .top .count) || ltb 64 (t .bottom .count)) Count) _ h₄ in
-    let (c₁, c₂) = or-false (eqb (t .columns) 0) (ltb 64 (t .columns)) (refuse-sound _ Length columns) in
-    let (p, q) = or-false (ltb 64 (t .top .count)) (ltb 64 (t .bottom .count)) (refuse-sound _ Count counts) in
-    let (top, bottom) = laid-out-room (t .top) (t .bottom) (length b) (not-false _ (refuse-sound _ Layout layout)) in
-    let positive : t .columns ≡ 0 → ⊥ = eqb-false (t .columns) 0 c₁ in
-    record {
-      long = ltb-false (length b) trailerSize (refuse-sound _ Short short);
-      columns = (omega (arith, positive), ltb-false 64 (t .columns) c₂);
-      count = elim [ Top ↦ ltb-false 64 (t .top .count) p | Bottom ↦ ltb-false 64 (t .bottom .count) q ];
-      room = elim [ Top ↦ top | Bottom ↦ bottom ];
-    }
 
 -- a sound sheet is formed, and each of its sides is sound
 pub record Whole (b : List ℕ) : Type 0 where

@@ -9,18 +9,20 @@ use lib.Dec.{eqb}
 use borrow.Author.Tests.{not-false}
 use Rattle.channel.specs.Sheet as channel
 use Rattle.channel.specs.Sheet.{Terminal, Sheet, SoundTerminal, SoundFrom, distances?}
-use Rattle.terminal.specs.declared.Refusal.{Refusal}
-use Rattle.terminal.specs.declared.Refusal.the-variants.{Net, Distance, Beyond}
-use Rattle.terminal.specs.Refusals.{numberOf}
+use Rattle.refusals.specs.declared.Refusal.{Refusal}
+use Rattle.refusals.specs.declared.Refusal.the-variants.{Net, Distance, Beyond}
+use Rattle.refusals.specs.Refusals.{numberOf}
 use Rattle.format.specs.declared.Side.the-variants.{Top, Bottom}
 use Rattle.trailer.specs.Trailer.{trailerOf}
 use Rattle.format.proofs.Records.{part-terminals}
-use Rattle.soundness.specs.declared.Checked.{Checked}
-use Rattle.soundness.specs.declared.Checked.the-variants.{Sound, Refused}
-use Rattle.soundness.specs.Check.{refuse, terminalCheck, sideCheck, terminalsOf, checkOf}
+use Rattle.refusals.specs.declared.Checked.{Checked}
+use Rattle.refusals.specs.declared.Checked.the-variants.{Sound, Refused}
+use Rattle.refusals.specs.Refusals.{refuse}
+use Rattle.soundness.specs.Check.{terminalCheck, sideCheck, terminalsOf, checkOf}
 use Rattle.soundness.specs.Read.{readAs, sheetOf, read}
 use Rattle.soundness.specs.Read.Read.{sound, refused}
-use Rattle.soundness.proofs.Checks.{orElse-sound, refuse-sound, whole}
+use Rattle.refusals.proofs.Refused.{orElse-sound, refuse-sound}
+use Rattle.soundness.proofs.Checks.{whole}
 
 -- a terminal that 6, 7 and 8 leave is sound
 terminal-sound : (l : ℕ) (isFirst : Bool) (t : Terminal) → terminalCheck l isFirst t ≡ Sound → SoundTerminal l isFirst t

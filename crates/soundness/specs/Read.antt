@@ -3,10 +3,10 @@
 use Prim.Native.Nat.{ℕ}
 use mathlib.Core.List.{List}
 use Rattle.channel.specs.Sheet.{Sheet, sheetWith}
-use Rattle.terminal.specs.Refusals.{numberOf}
+use Rattle.refusals.specs.Refusals.{numberOf}
 use Rattle.trailer.specs.Trailer.{trailerOf}
-use Rattle.soundness.specs.declared.Checked.{Checked}
-use Rattle.soundness.specs.declared.Checked.the-variants.{Sound, Refused}
+use Rattle.refusals.specs.declared.Checked.{Checked}
+use Rattle.refusals.specs.declared.Checked.the-variants.{Sound, Refused}
 use Rattle.soundness.specs.Check.{terminalsOf, checkOf}
 
 pub data Read : Type 0 where

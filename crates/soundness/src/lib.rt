@@ -1,21 +1,14 @@
 // The soundness layer: the sheet check.
 
-mod form;
 mod sides;
 
 use form::check_form;
 use format::part_in;
+use refusals::Checked;
 use sides::check_side;
-use terminal::Refusal;
 use trailer::read_trailer;
 ghost use mathlib.Core.Path.{_≡_};
 ghost use Rattle.soundness.specs.Check.{checkOf};
-
-// The answer of the sheet check.
-pub enum Checked {
-    Sound,
-    Refused(Refusal),
-}
 
 // The sheet check: sound, or the first refusal that applies. 1 to 5 in turn, then the terminals, top before bottom, each tried for
 // 6, 7 and 8 before the next.

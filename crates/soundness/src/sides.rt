@@ -1,9 +1,9 @@
 // 6 to 8: the terminals of one side.
-use crate::Checked;
 use format::count_in;
 use format::terminal_at;
+use refusals::Checked;
+use refusals::Refusal;
 use terminal::Record;
-use terminal::Refusal;
 use terminal::names_above;
 ghost use mathlib.Core.Path.{_≡_};
 ghost use mathlib.Core.Bool.{true};

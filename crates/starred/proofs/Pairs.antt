@@ -15,7 +15,8 @@ use Rattle.little.specs.Little.{little}
 use Rattle.trailer.specs.Trailer.{trailerOf, hasMark}
 use Rattle.format.specs.Format.{terminalAt, terminalsFrom}
 use Rattle.format.specs.Parts.{bytesOf, terminalsIn}
-use Rattle.soundness.specs.Check.{laidOut, trailerCheck, formOf, terminalCheck, checkOf}
+use Rattle.form.specs.Form.{laidOut, trailerCheck, formOf}
+use Rattle.soundness.specs.Check.{terminalCheck, checkOf}
 use Rattle.soundness.specs.Read.{sheetOf, read}
 use Rattle.search.specs.Answer.{answerIn, searchedOf, columnsAfter}
 use Rattle.starred.specs.Sheets.{full}

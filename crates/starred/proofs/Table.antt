@@ -9,7 +9,8 @@ use Rattle.little.specs.Little.{little}
 use Rattle.trailer.specs.Trailer.{trailerOf, hasMark}
 use Rattle.format.specs.Format.{terminalAt, terminalsFrom}
 use Rattle.format.specs.Parts.{bytesOf, terminalsIn}
-use Rattle.soundness.specs.Check.{laidOut, trailerCheck, formOf, terminalCheck, checkOf}
+use Rattle.form.specs.Form.{laidOut, trailerCheck, formOf}
+use Rattle.soundness.specs.Check.{terminalCheck, checkOf}
 use Rattle.soundness.specs.Read.{sheetOf, read}
 use Rattle.sheet.specs.Parts.{shapeOf}
 use Rattle.measure.specs.Answer.{allAllowed, distancesKept, listMeasured, sheetMeasured, measuredOf}

@@ -1,2 +1,1 @@
 pub mod Terminal
-pub mod Refusals

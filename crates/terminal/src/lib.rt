@@ -1,12 +1,10 @@
-// The terminal layer: what one terminal's record says, and the refusal list.
+// The terminal layer: what one terminal's record says.
 
 mod columns;
-mod refusals;
 
 pub use columns::allows;
 pub use columns::in_range;
 pub use columns::names_above;
-pub use refusals::number_of;
 
 // The fields of one terminal's record.
 pub struct Record {
@@ -14,16 +12,4 @@ pub struct Record {
     pub least: u8,
     pub greatest: u8,
     pub allowed: u64,
-}
-
-// Why a sheet is refused; `number_of` gives each its number.
-pub enum Refusal {
-    Short,
-    Mark,
-    Length,
-    Count,
-    Layout,
-    Net,
-    Distance,
-    Beyond,
 }

@@ -2,9 +2,10 @@
 -- Assumes nothing.
 use mathlib.Core.Path.{_≡_, sym, _∙_}
 use Rattle.trailer.specs.Trailer.{trailerOf}
-use Rattle.soundness.specs.declared.Checked.the-variants.{Sound}
-use Rattle.soundness.specs.Check.{formOf}
-use Rattle.soundness.proofs.Checks.{formed, form-refuses, top-refuses, bottom-answers}
+use Rattle.refusals.specs.declared.Checked.the-variants.{Sound}
+use Rattle.form.specs.Form.{formOf}
+use Rattle.form.proofs.Forms.{formed}
+use Rattle.soundness.proofs.Checks.{form-refuses, top-refuses, bottom-answers}
 use borrow.Author.Needs.{needs}
 use Rattle.soundness.proofs.check.Statement.{statement}
 use Rattle.soundness.proofs.check.Tie as tie

@@ -12,8 +12,9 @@ use borrow.Author.Tests.{ne-eqb}
 use Rattle.terminal.specs.declared.Record.{Record}
 use Rattle.terminal.specs.Terminal.{terminalOf}
 use Rattle.format.specs.Parts.{terminalsIn}
-use Rattle.soundness.specs.declared.Checked.{Checked}
-use Rattle.soundness.specs.Check.{_orElse_, terminalCheck, sideCheck}
+use Rattle.refusals.specs.declared.Checked.{Checked}
+use Rattle.refusals.specs.Refusals.{_orElse_}
+use Rattle.soundness.specs.Check.{terminalCheck, sideCheck}
 use borrow.Author.Needs.{needs}
 use Rattle.soundness.proofs.Checks.{side-more}
 use Rattle.soundness.proofs.sides.check_side.Statement.{statement}

@@ -1,7 +1,24 @@
-// The refusal list.
-use crate::Refusal;
+// The refusal list, as far as it is a sheet's.
 ghost use mathlib.Core.Path.{_≡_};
-ghost use Rattle.terminal.specs.Refusals.{numberOf};
+ghost use Rattle.refusals.specs.Refusals.{numberOf};
+
+// Why a sheet is refused; `number_of` gives each its number.
+pub enum Refusal {
+    Short,
+    Mark,
+    Length,
+    Count,
+    Layout,
+    Net,
+    Distance,
+    Beyond,
+}
+
+// The answer of a check: sound, or the first refusal that applies.
+pub enum Checked {
+    Sound,
+    Refused(Refusal),
+}
 
 // The number of a refusal.
 pub fn number_of(why: Refusal) -> u8

@@ -1,7 +1,7 @@
-// 1 to 5: the file's length, its mark and its trailer.
-use crate::Checked;
+// The form of a sheet's bytes: refusals 1 to 5.
 use format::RECORD;
-use terminal::Refusal;
+use refusals::Checked;
+use refusals::Refusal;
 use trailer::Part;
 use trailer::TRAILER;
 use trailer::Trailer;
@@ -9,8 +9,9 @@ use trailer::has_mark;
 use trailer::read_trailer;
 ghost use mathlib.Core.Path.{_≡_};
 ghost use Prim.Native.Nat.{_≤_};
-ghost use Rattle.soundness.specs.Check.{formOf, trailerCheck, follows, laidOut};
+ghost use Rattle.form.specs.Form.{formOf, trailerCheck, follows, laidOut};
 
+// 1 to 5 in turn: the file's length, its mark and its trailer.
 pub fn check_form(s: &[u8]) -> Checked
     ensures { λ r. ⌜ r ≡ formOf (now (s .entry)) ⌝ }
 {

@@ -1,11 +1,11 @@
--- `soundness::check_form` meets its contract: at each return the tests that led there decide `formOf`.
+-- `form::check_form` meets its contract: at each return the tests that led there decide `formOf`.
 -- Assumes nothing.
 use mathlib.Core.Path.{_∙_, sym}
 use borrow.Author.Tests.{lt-ltb, le-ltb}
-use Rattle.soundness.specs.Check.{formOf}
+use Rattle.form.specs.Form.{formOf}
 use borrow.Author.Needs.{needs}
-use Rattle.soundness.proofs.form.check_form.Statement.{statement}
-use Rattle.soundness.proofs.form.check_form.Tie as tie
+use Rattle.form.proofs.check_form.Statement.{statement}
+use Rattle.form.proofs.check_form.Tie as tie
 
 returns : tie.Need-returns
 unfolding formOf

@@ -1,11 +1,11 @@
--- `soundness::laid_out` meets its contract: at each return the tests that led there decide `laidOut`.
+-- `form::laid_out` meets its contract: at each return the tests that led there decide `laidOut`.
 -- Assumes nothing.
 use mathlib.Core.Path.{_∙_, sym}
 use borrow.Author.Tests.{eq-eqb, ne-eqb}
-use Rattle.soundness.specs.Check.{laidOut}
+use Rattle.form.specs.Form.{laidOut}
 use borrow.Author.Needs.{needs}
-use Rattle.soundness.proofs.form.laid_out.Statement.{statement}
-use Rattle.soundness.proofs.form.laid_out.Tie as tie
+use Rattle.form.proofs.laid_out.Statement.{statement}
+use Rattle.form.proofs.laid_out.Tie as tie
 
 returns : tie.Need-returns
 unfolding laidOut

@@ -1,11 +1,11 @@
--- `soundness::check_trailer` meets its contract: at each return the tests that led there decide `trailerCheck`.
+-- `form::check_trailer` meets its contract: at each return the tests that led there decide `trailerCheck`.
 -- Assumes nothing.
 use mathlib.Core.Path.{_∙_, sym}
 use borrow.Author.Tests.{eq-eqb, ne-eqb, lt-ltb, le-ltb}
-use Rattle.soundness.specs.Check.{trailerCheck}
+use Rattle.form.specs.Form.{trailerCheck}
 use borrow.Author.Needs.{needs}
-use Rattle.soundness.proofs.form.check_trailer.Statement.{statement}
-use Rattle.soundness.proofs.form.check_trailer.Tie as tie
+use Rattle.form.proofs.check_trailer.Statement.{statement}
+use Rattle.form.proofs.check_trailer.Tie as tie
 
 returns : tie.Need-returns
 unfolding trailerCheck

@@ -1,9 +1,9 @@
--- `soundness::second_follows` meets its contract: the first test decides the first half of `follows`, and the second is the other half.
+-- `form::second_follows` meets its contract: the first test decides the first half of `follows`, and the second is the other half.
 -- Assumes nothing.
 use borrow.Author.Tests.{eq-eqb, ne-eqb}
 use borrow.Author.Needs.{needs}
-use Rattle.soundness.proofs.form.second_follows.Statement.{statement}
-use Rattle.soundness.proofs.form.second_follows.Tie as tie
+use Rattle.form.proofs.second_follows.Statement.{statement}
+use Rattle.form.proofs.second_follows.Tie as tie
 
 returns : tie.Need-returns
 returns c = simp (eq-eqb _ _ (c .before .before .if1 .taken))
