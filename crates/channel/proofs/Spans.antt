@@ -6,6 +6,7 @@ use mathlib.Core.List.{List, [], _∷_, _++_}
 use mathlib.Core.Bool.{Bool, true, false, cond, _&&_, _||_, and-false, or-assoc, or-true, or-false, true≢false}
 use native.Mathlib.Omega.{arith}
 use native.Mathlib.Nat.{zero-add, zero-max}
+use lib.ListN.{length}
 use lib.Dec.{leb, ltb, eqb}
 use borrow.Author.Tests.{leb-true, leb-false, le-leb, lt-leb, ltb-true, ltb-false, lt-ltb, le-ltb, eqb-true, eqb-false, eq-eqb, ne-eqb}
 use Rattle.channel.specs.Sheet.{Terminal, Sheet}
@@ -207,6 +208,15 @@ below-pins b n (t ∷ ts) (c ∷ cs) h = go (eqb (t .net) n) (below-pins b n ts 
     go : (x : Bool) → Below b (netColumns n (pins ts cs)) → Below b (cond x (c ∷ netColumns n (pins ts cs)) (netColumns n (pins ts cs)))
     go true r = (h .0, r)
     go false r = r
+
+-- distinct numbers of a list are no more than the list has
+pub length-distinct : (ns : List ℕ) → length (distinct ns) ≤ length ns
+length-distinct [] = omega arith
+length-distinct (n ∷ ns) = go (any (eqb n) ns) (length-distinct ns)
+  where
+    go : (b : Bool) → length (distinct ns) ≤ length ns → length (cond b (distinct ns) (n ∷ distinct ns)) ≤ length (n ∷ ns)
+    go true h = omega arith
+    go false h = omega arith
 
 -- "Each net counts once in a column, however many pins it has": to count each net of a list once is to count it where it occurs last
 pub weight-last : (f : ℕ → Bool) (ns : List ℕ) → weightOf f (distinct ns) ≡ sumLast f ns

@@ -11,6 +11,7 @@ use lib.ListN.{length, getD, take, drop, set, length-append, length-drop, take-a
 use lib.Seq.{drop-cons, drop-drop, take-at, drop-at, sets, sets-eq, length-take-le, take-all}
 use lib.Dec.{eqb}
 use Rattle.channel.specs.Density.{any, distinct}
+use Rattle.channel.proofs.Spans.{length-distinct}
 use Rattle.places.specs.declared.NetPlaces.{NetPlaces}
 use Rattle.places.specs.Places.{placesOf, numbersOf, placesList, placesAt, onceAt, Put, AsksPlaces, Listed}
 
@@ -122,15 +123,7 @@ put-one tops bottoms ns m old new k again s e f d room h =
 pub part-rest : (ns : List ℕ) (a : ℕ) → take (length ns - a) (drop a ns) ≡ drop a ns
 part-rest ns a = take-all (length ns - a) (drop a ns) (rw length-drop (le-refl (length ns - a)))
 
--- there are no more than nets: at most 128, of five numbers each
-length-distinct : (ns : List ℕ) → length (distinct ns) ≤ length ns
-length-distinct [] = le-refl 0
-length-distinct (n ∷ ns) = go (any (eqb n) ns) (length-distinct ns)
-  where
-    go : (b : Bool) → length (distinct ns) ≤ length ns → length (cond b (distinct ns) (n ∷ distinct ns)) ≤ suc (length ns)
-    go true h = omega arith
-    go false h = omega arith
-
+-- at most 128 nets, of five numbers each
 pub listed-length : (tops bottoms places : List ℕ) → Listed tops bottoms places → length places ≤ 640
 listed-length tops bottoms places listed =
     omega (

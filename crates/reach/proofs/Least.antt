@@ -11,13 +11,14 @@ use lib.Dec.{leb, ltb, eqb}
 use borrow.Author.Tests.{leb-true, leb-false, ltb-true, eqb-true}
 use Rattle.channel.specs.Sheet.{Terminal, Sheet, Sound}
 use Rattle.channel.specs.Assignment.{assignment?}
-use Rattle.channel.specs.Density.{any, weightOf, distinct, netsOf, density, mostDensity}
+use Rattle.channel.specs.Density.{weightOf, netsOf, density, mostDensity}
 use Rattle.channel.specs.Word.{Letter, rank, hasTop, hasBottom, columnsOf, word, noLater}
 use Rattle.channel.specs.Cut.{count, load, occupied, wordLoad}
 use Rattle.channel.specs.Best.{Found, best, IsBest, Answers}
 use Rattle.channel.specs.Best.Found.{none, found}
 use Rattle.channel.proofs.Assignments.{wordFits, length-word, columnsOf-word, fits-word, assignment-columnsOf, word-columnsOf}
 use Rattle.channel.proofs.Best.{best-answers, none-exactly}
+use Rattle.channel.proofs.Spans.{length-distinct}
 use Rattle.reach.specs.Reach.{feasible}
 use Rattle.reach.specs.Greedy.{walkWord}
 use Rattle.reach.proofs.Smallest.{rank-same}
@@ -113,15 +114,6 @@ pub search-best :
     → best s ≡ found d (columnsOf (walkWord s d))
 search-best s sound d f least = is-best s sound d (columnsOf (walkWord s d)) (walk-best s sound d f least)
 
--- distinct numbers of a list are no more than the list has
-distinct-length : (ns : List ℕ) → length (distinct ns) ≤ length ns
-distinct-length [] = omega arith
-distinct-length (n ∷ ns) = go (any (eqb n) ns) (distinct-length ns)
-  where
-    go : (t : Bool) → length (distinct ns) ≤ length ns → length (cond t (distinct ns) (n ∷ distinct ns)) ≤ length (n ∷ ns)
-    go true h = omega arith
-    go false h = omega arith
-
 -- a list's nets weigh at most one each
 weight-length : (f : ℕ → Bool) (ns : List ℕ) → weightOf f ns ≤ length ns
 weight-length f [] = omega arith
@@ -139,7 +131,7 @@ module _ (s : Sheet) where
       let ts : List Terminal = s .top ++ s .bottom in
       omega (
         arith,
-        distinct-length (map (λ (t : Terminal). t .net) ts),
+        length-distinct (map (λ (t : Terminal). t .net) ts),
         length-map ts (λ (t : Terminal). t .net),
         length-append (s .top) (s .bottom),
       )

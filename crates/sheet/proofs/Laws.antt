@@ -1,11 +1,10 @@
 -- What the layers above may use of the sheet layer: laws of its definitions that say nothing of where a byte stands.
 -- Assumes nothing.
-use Prim.Native.Nat.{ℕ, zero, suc, _≤_}
-use mathlib.Core.Path.{_≡_, refl, sym, _∙_, ap}
-use mathlib.Core.List.{List, [], _∷_}
-use native.Mathlib.Omega.{arith}
+use Prim.Native.Nat.{ℕ}
+use mathlib.Core.Path.{_≡_, refl, _∙_, ap}
+use mathlib.Core.List.{List}
 use lib.ListN.{length}
-use Rattle.channel.specs.Sheet.{Terminal, Sheet}
+use Rattle.channel.specs.Sheet.{Sheet}
 use Rattle.format.specs.declared.Side.{Side}
 use Rattle.format.specs.declared.Side.the-variants.{Top, Bottom}
 use Rattle.format.specs.Format.{ofSide}
@@ -14,16 +13,15 @@ use Rattle.refusals.specs.declared.Checked.the-variants.{Sound}
 use Rattle.soundness.specs.Check.{checkOf}
 use Rattle.soundness.specs.Read.{sheetOf, read}
 use Rattle.soundness.specs.Read.Read.{sound}
-use Rattle.sheet.specs.declared.Entry.the-variants.{Nothing}
 use Rattle.sheet.specs.declared.Layout.{Layout}
 use Rattle.sheet.specs.declared.Opened.the-variants.{Sound as Laid}
-use Rattle.sheet.specs.Parts.{shape, shapeAs, shapeOf, openedOf, sectionOf, nth, entryOf, entryIn}
+use Rattle.sheet.specs.Parts.{shape, shapeAs, shapeOf, openedOf, sectionOf, entryOf, entryIn}
 use Rattle.soundness.proofs.Laws.{sound-read}
 use Rattle.sheet.proofs.Sections.{opened-sound, layout-shape, sound-section}
 -- what the check refuses does not open
 pub use Rattle.sheet.proofs.Sections.{opened-refused}
--- a section's terminals are those of its side; and places count from 1
-pub use Rattle.sheet.proofs.Sections.{section-terminals, entry-at}
+-- a section's terminals are those of its side
+pub use Rattle.sheet.proofs.Sections.{section-terminals}
 
 -- the shape of a sheet that reads
 pub shape-read : (b : List ℕ) (s : Sheet) → read b ≡ sound s → shapeOf b ≡ shape (s .columns) (length (s .top)) (length (s .bottom))
@@ -56,13 +54,3 @@ opens b n h =
 pub entry-in : (part : List ℕ) (place : ℕ) → entryIn part place ≡ entryOf (terminalsIn part) place
 unfolding entryIn
 entry-in part place = refl
-
--- and there is one at each of its places
-nth-there : (ts : List Terminal) (k : ℕ) → nth ts k ≡ Nothing → length ts ≤ k
-nth-there [] k h = omega arith
-nth-there (t ∷ ts) zero h = let z : _≡_ {A = ℕ} 0 1 = cc in absurd (omega arith)
-nth-there (t ∷ ts) (suc k) h = omega (arith, nth-there ts k h)
-
-pub entry-there : (part : List ℕ) (place : ℕ) → 1 ≤ place → place ≤ length (terminalsIn part) → entryIn part place ≡ Nothing → ⊥
-entry-there part zero p l h = omega arith
-entry-there part (suc k) p l h = omega (arith, nth-there (terminalsIn part) k (sym (entry-in part (suc k)) ∙ h))

@@ -41,7 +41,7 @@ nth-past [] k h = refl
 nth-past (t ∷ ts) (suc k) h = nth-past ts k (omega arith)
 
 -- places count from 1
-pub entry-at : (ts : List Terminal) (place : ℕ) → (place ≡ 0 → ⊥) → entryOf ts place ≡ nth ts (place - 1)
+entry-at : (ts : List Terminal) (place : ℕ) → (place ≡ 0 → ⊥) → entryOf ts place ≡ nth ts (place - 1)
 entry-at ts zero h = absurd (h refl)
 entry-at ts (suc k) h = ap (nth ts) (omega arith)
 
