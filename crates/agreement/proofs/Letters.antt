@@ -21,7 +21,7 @@ use Rattle.reach.specs.Reach.{near, reach}
 use Rattle.reach.specs.Greedy.{next, lastAt, smallestOf, letterFits, choice}
 use Rattle.reach.proofs.Bounds.{Held, reach-held}
 use Rattle.pass.specs.declared.Plan.{Plan}
-use Rattle.walk.specs.declared.Mark.{Mark}
+use Rattle.letters.specs.declared.Mark.{Mark}
 use Rattle.rules.specs.Sides.{SideRules}
 use Rattle.walk.specs.Walk.{stepsTo, standsAt, numberFits, lefts, rowFits, rowMeets, someLeft}
 use Rattle.walk.specs.Walk.{someHere, emptyFits, topFits, bottomFits, choiceIn}

@@ -24,7 +24,8 @@ use Rattle.reach.proofs.Rightmost.{lastIn}
 use Rattle.reach.proofs.Completed.{SideDone, Done, done-rest}
 use Rattle.reach.proofs.Whole.{walk-whole}
 use Rattle.pass.specs.declared.Plan.{Plan}
-use Rattle.walk.specs.Walk.{choiceIn, hasTopPin, hasBottomPin, behind, written, walkColumns}
+use Rattle.letters.specs.Letters.{hasTopPin, hasBottomPin, behind, written}
+use Rattle.walk.specs.Walk.{choiceIn, walkColumns}
 use Rattle.agreement.specs.Ready.{Ready}
 use Rattle.agreement.proofs.Reached.{cell-reach}
 use Rattle.agreement.proofs.Letters.{OnSide, Reaches, choice-in}

@@ -1,46 +1,24 @@
 -- Laws of the walk's choices: what each question to the table says.
 -- Assumes nothing.
 use Prim.Native.Nat.{ℕ, zero, suc, _+_, _-_, _≤_, _<_, min}
-use mathlib.Core.Path.{_≡_, refl, sym, _∙_, ap}
+use mathlib.Core.Path.{_≡_, refl, sym, ap}
 use mathlib.Core.List.{List}
-use mathlib.Core.Bool.{Bool, true, false, cond, _&&_, _||_, true≢false, and-false}
+use mathlib.Core.Bool.{Bool, true, false, cond, _&&_, _||_, and-false}
 use native.Mathlib.Omega.{arith}
 use native.Mathlib.Nat.{le-refl}
-use lib.ListN.{set}
 use lib.Dec.{leb, ltb, eqb, leb·zero}
-use borrow.Author.Tests.{ltb-true, le-leb, lt-leb, lt-ltb, le-ltb, eqb-false}
+use borrow.Author.Tests.{le-leb, lt-leb, lt-ltb, le-ltb, eqb-false}
 use Rattle.channel.specs.Below.{anyBelow}
 use Rattle.channel.proofs.Below.{anyBelow-cong}
 use Rattle.bits.specs.Bits.{bitOf}
 use Rattle.bits.proofs.Laws.{word-cong}
 use Rattle.entry.specs.declared.Grid.{Grid}
 use Rattle.table.specs.Planes.{heldAt, meeting}
-use Rattle.walk.specs.declared.Mark.{Mark}
+use Rattle.letters.specs.declared.Mark.{Mark}
+use Rattle.letters.specs.Letters.{hasTopPin, hasBottomPin, behind, written}
 use Rattle.walk.specs.Walk.{stepsTo, standsAt, numberFits, lefts, rowFits, rowMeets, someLeft, someHere, emptyMeets, topMeets}
-use Rattle.walk.specs.Walk.{emptyFits, topFits, bottomFits, choiceIn, hasTopPin, hasBottomPin, behind, written, walkColumns}
+use Rattle.walk.specs.Walk.{emptyFits, topFits, bottomFits, choiceIn, walkColumns}
 use Rattle.walk.specs.Walking.{AsksStep}
-
--- a letter with a pin has one to place
-pub pin-left : (letter n a b : ℕ) → (ltb 0 n && (eqb letter a || eqb letter b)) ≡ true → 0 < n
-pin-left letter n a b h = by-test (ltb 0 n) refl h
-  where
-    by-test : (t : Bool) → ltb 0 n ≡ t → (t && (eqb letter a || eqb letter b)) ≡ true → 0 < n
-    by-test true e h = ltb-true 0 n e
-    by-test false e h = absurd (true≢false (sym h))
-
--- a letter's columns, written one side after the other
-pub put-written :
-    (p letter : ℕ) (m : Mark) (columns mid out : List ℕ) (t b : Bool) (i j : ℕ) → t ≡ hasTopPin letter (m .i)
-    → b ≡ hasBottomPin letter (m .j) → i ≡ m .i - 1 → j ≡ m .j - 1 → mid ≡ cond t (set columns i (m .c)) columns
-    → out ≡ cond b (set mid (p + j) (m .c)) mid → out ≡ written p letter m columns
-put-written p letter m columns mid out t b i j ht hb hi hj hm ho = ho ∙ rw (hm, hb, hj, ht, hi)
-
--- the walk behind a letter, from its parts
-pub go-behind :
-    (letter : ℕ) (m : Mark) (t b : Bool) (i' j' i j u v : ℕ) → t ≡ hasTopPin letter (m .i) → b ≡ hasBottomPin letter (m .j)
-    → i' ≡ m .i - 1 → j' ≡ m .j - 1 → i ≡ cond t i' (m .i) → j ≡ cond b j' (m .j) → u ≡ cond t (m .c) (m .top)
-    → v ≡ cond b (m .c) (m .bottom) → _≡_ {A = Mark} (record { c = m .c - 1; i = i; j = j; top = u; bottom = v }) (behind letter m)
-go-behind letter m t b i' j' i j u v ht hb hi' hj' hi hj hu hv = rw (hi, hj, hu, hv, ht, hb, hi', hj')
 
 -- a number x up to the one behind the last pin
 pub stands-high : (i n at x : ℕ) → (i < n → x + (i + 1) ≤ at) → i ≤ n → x ≤ 63 → x ≤ standsAt i n at

@@ -3,15 +3,15 @@
 -- Assumes nothing.
 use Prim.Native.Nat.{ℕ, zero, suc, _+_, _-_, min}
 use mathlib.Core.List.{List}
-use mathlib.Core.Bool.{Bool, cond, _&&_, _||_}
-use lib.ListN.{set}
+use mathlib.Core.Bool.{Bool, cond, _&&_}
 use lib.Dec.{leb, ltb, eqb}
 use Rattle.channel.specs.Below.{anyBelow}
 use Rattle.bits.specs.Bits.{bitOf, inWord}
 use Rattle.entry.specs.declared.Grid.{Grid}
 use Rattle.arrays.specs.Rules.{rangeAt}
 use Rattle.table.specs.Planes.{heldAt}
-use Rattle.walk.specs.declared.Mark.{Mark}
+use Rattle.letters.specs.declared.Mark.{Mark}
+use Rattle.letters.specs.Letters.{behind, written}
 
 -- every number below 64
 abbrev pub ones : ℕ
@@ -74,29 +74,6 @@ module _ (work rules : List ℕ) (g : Grid) (p q : ℕ) (m : Mark) where
   -- 0 empty, 1 top pin only, 2 bottom pin only, 3 both
   unfoldable pub choiceIn : ℕ
   choiceIn = cond emptyFits 0 (cond topFits 1 (cond bottomFits 2 3))
-
--- the walk goes on behind a letter; a pin that is not there is not placed
-abbrev pub hasTopPin : ℕ → ℕ → Bool
-hasTopPin letter i = ltb 0 i && (eqb letter 1 || eqb letter 3)
-
-abbrev pub hasBottomPin : ℕ → ℕ → Bool
-hasBottomPin letter j = ltb 0 j && (eqb letter 2 || eqb letter 3)
-
-abbrev pub behind : ℕ → Mark → Mark
-behind letter m =
-    record {
-      c = m .c - 1;
-      i = cond (hasTopPin letter (m .i)) (m .i - 1) (m .i);
-      j = cond (hasBottomPin letter (m .j)) (m .j - 1) (m .j);
-      top = cond (hasTopPin letter (m .i)) (m .c) (m .top);
-      bottom = cond (hasBottomPin letter (m .j)) (m .c) (m .bottom);
-    }
-
--- the columns that a letter writes
-abbrev pub written : ℕ → ℕ → Mark → List ℕ → List ℕ
-written p letter m columns =
-    let tops : List ℕ = cond (hasTopPin letter (m .i)) (set columns (m .i - 1) (m .c)) columns in
-    cond (hasBottomPin letter (m .j)) (set tops (p + (m .j - 1)) (m .c)) tops
 
 -- the whole walk over the c columns that are left
 unfoldable pub walkColumns : List ℕ → List ℕ → Grid → ℕ → ℕ → ℕ → Mark → List ℕ → List ℕ

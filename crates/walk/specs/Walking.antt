@@ -7,7 +7,7 @@ use lib.ListN.{length}
 use Rattle.arrays.specs.Rules.{ruleWords}
 use Rattle.entry.specs.declared.Grid.{Grid}
 use Rattle.table.specs.Planes.{AsksTable}
-use Rattle.walk.specs.declared.Mark.{Mark}
+use Rattle.letters.specs.declared.Mark.{Mark}
 
 -- the planes of 0 to p, for 0 to q bottom pins and of one row or more, lie in the work cells, and so do the rules in their array
 pub record AsksWalk (w r : List ℕ) (g : Grid) (p q : ℕ) : Type 0 where

@@ -3,27 +3,18 @@ use arrays::range;
 use bits::bit;
 use bits::single;
 use entry::Grid;
+use letters::Mark;
+use letters::behind;
+use letters::put;
 use table::back;
 use table::meets;
 ghost use Prim.Native.Nat.{ℕ, _+_, _-_, _≤_, _<_, min};
 ghost use mathlib.Core.Path.{_≡_};
-ghost use mathlib.Core.Bool.{true, cond};
-ghost use lib.ListN.{length, set};
+ghost use lib.ListN.{length};
 ghost use Rattle.arrays.specs.Rules.{pins, ruleWords};
 ghost use Rattle.bits.specs.Bits.{bitOf};
-ghost use Rattle.walk.specs.Walk.{stepsTo, standsAt, lefts, emptyMeets, topMeets, bottomFits, choiceIn};
-ghost use Rattle.walk.specs.Walk.{hasTopPin, hasBottomPin, behind, written, walkColumns};
+ghost use Rattle.walk.specs.Walk.{stepsTo, standsAt, lefts, emptyMeets, topMeets, bottomFits, choiceIn, walkColumns};
 ghost use Rattle.walk.specs.Walking.{AsksWalk, AsksStep};
-
-// How far the walk has come: c columns are still to be lettered, i top and j bottom pins to be placed, and the pins
-// placed last stand in the columns top and bottom.
-pub struct Mark {
-    pub c: usize,
-    pub i: usize,
-    pub j: usize,
-    pub top: usize,
-    pub bottom: usize,
-}
 
 // The steps from the last pin to be placed to the one behind it.
 fn steps_to(rules: &[u64], side: usize, i: usize, n: usize) -> u64
@@ -165,74 +156,6 @@ fn choose(work: &[u16], rules: &[u64], grid: Grid, p: usize, q: usize, m: Mark) 
     3
 }
 
-// Whether a letter has a top pin, of i that are left; and a bottom pin.
-fn has_top(letter: u8, i: usize) -> bool
-    ensures { λ r. ⌜ r ≡ hasTopPin letter i ⌝ }
-{
-    if i == 0 {
-        return false;
-    }
-    letter == 1 || letter == 3
-}
-
-fn has_bottom(letter: u8, j: usize) -> bool
-    ensures { λ r. ⌜ r ≡ hasBottomPin letter j ⌝ }
-{
-    if j == 0 {
-        return false;
-    }
-    letter == 2 || letter == 3
-}
-
-// One less, or 0.
-fn less(n: usize) -> usize
-    ensures { λ r. ⌜ r ≡ n - 1 ⌝ }
-{
-    if n == 0 { 0 } else { n - 1 }
-}
-
-fn pick(yes: bool, a: usize, b: usize) -> usize
-    ensures { λ r. ⌜ r ≡ cond yes a b ⌝ }
-{
-    if yes { a } else { b }
-}
-
-// The walk behind a letter.
-fn go(letter: u8, m: Mark) -> Mark
-    requires { ⌜ 0 < m .c ⌝ }
-    ensures { λ r. ⌜ r ≡ behind letter m ⌝ }
-{
-    let top = has_top(letter, m.i);
-    let bottom = has_bottom(letter, m.j);
-    Mark {
-        c: m.c - 1,
-        i: pick(top, less(m.i), m.i),
-        j: pick(bottom, less(m.j), m.j),
-        top: pick(top, m.c, m.top),
-        bottom: pick(bottom, m.c, m.bottom),
-    }
-}
-
-// Writes a column, if there is a pin in it.
-fn put_one(columns: &mut [u8], yes: bool, at: usize, c: u8)
-    requires { ⌜ (yes ≡ true → at < length (now columns)) ⌝ }
-    ensures { λ _. ⌜ now (columns .exit) ≡ cond yes (set (now (columns .entry)) at c) (now (columns .entry)) ⌝ }
-{
-    if yes {
-        columns[at] = c;
-    }
-}
-
-// Writes a letter's columns.
-fn put(columns: &mut [u8], p: usize, letter: u8, m: Mark)
-    requires { ⌜ (m .c ≤ 64) × (m .i ≤ p) × (p + m .j ≤ length (now columns)) ⌝ }
-    ensures { λ _. ⌜ now (columns .exit) ≡ written p letter m (now (columns .entry)) ⌝ }
-{
-    let c = m.c as u8;
-    put_one(columns, has_top(letter, m.i), less(m.i), c);
-    put_one(columns, has_bottom(letter, m.j), p + less(m.j), c);
-}
-
 // Writes the columns of the walk over a filled table.
 pub fn walk(
     work: &[u16],
@@ -258,7 +181,7 @@ pub fn walk(
     while 0 < left {
         let letter = choose(work, rules, grid, p, q, m);
         put(columns, p, letter, m);
-        m = go(letter, m);
+        m = behind(letter, m);
         left -= 1;
     }
 }

@@ -5,7 +5,7 @@ use Prim.Native.Nat.{ℕ, _-_}
 use mathlib.Core.Path.{_≡_, refl, _∙_, sym, ap}
 use native.Mathlib.Omega.{arith}
 use lib.ListN.{length}
-use Rattle.walk.specs.declared.Mark.{Mark}
+use Rattle.letters.specs.declared.Mark.{Mark}
 use Rattle.walk.specs.Walk.{walkColumns}
 use Rattle.walk.specs.Walking.{AsksStep}
 use Rattle.walk.proofs.Choices.{walks-on, walks-from, walk-more, walk-none}
@@ -40,8 +40,8 @@ put-requires c κs =
     let start = at-loop .before .before .before .before in
     (at-loop .loop .inv .1 .c, at-loop .loop .inv .1 .i, omega (arith, start .pre .2, at-loop .loop .inv .2, at-loop .loop .inv .1 .j))
 
-go-requires : tie.Need-go-requires Inv-loop μ-loop
-go-requires c κs =
+behind-requires : tie.Need-behind-requires Inv-loop μ-loop
+behind-requires c κs =
     let at-loop-test = c .before .before .before .before .before in
     omega (arith, at-loop-test .loop-test .taken, at-loop-test .before .loop .inv .0)
 
@@ -60,12 +60,12 @@ loop-again c =
     let start = at-loop .before .before .before .before in
     let a = start .args in
     let o = at-loop .loop in (
-      ap (λ (n : ℕ). n - 1) (o .inv .0) ∙ sym (ap (λ (x : Mark). x .c) (c .go .ensures)),
-      rw (c .go .ensures) (walks-on (a .p) (a .q) (at-choose .choose .result) (o .m)
+      ap (λ (n : ℕ). n - 1) (o .inv .0) ∙ sym (ap (λ (x : Mark). x .c) (c .behind .ensures)),
+      rw (c .behind .ensures) (walks-on (a .p) (a .q) (at-choose .choose .result) (o .m)
           (omega (arith, at-loop-test .loop-test .taken, o .inv .0)) (o .inv .1)),
       at-put .put .kept .0 ∙ o .inv .2,
       walk-more (a .work .now) (a .rules .now) (a .grid) (a .p) (a .q) (o .left) (at-choose .choose .result) (o .m) _ (o .columns) _
-          (at-loop-test .loop-test .taken) (at-choose .choose .ensures) (c .go .ensures) (at-put .put .ensures)
+          (at-loop-test .loop-test .taken) (at-choose .choose .ensures) (c .behind .ensures) (at-put .put .ensures)
           ∙ o .inv .3,
     )
 
@@ -87,7 +87,7 @@ walk-spec =
     loop-holds
     choose-requires
     put-requires
-    go-requires
+    behind-requires
     sub-left
     loop-less
     loop-again

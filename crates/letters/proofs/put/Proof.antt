@@ -1,11 +1,11 @@
--- `walk::put` meets its contract: the two stores are those of the letter.
+-- `letters::put` meets its contract: the two stores are those of the letter.
 -- Assumes nothing.
 use mathlib.Core.Path.{_∙_, sym}
 use native.Mathlib.Omega.{arith}
-use Rattle.walk.proofs.Choices.{pin-left, put-written}
+use Rattle.letters.proofs.Written.{pin-left, put-written}
 use borrow.Author.Needs.{needs}
-use Rattle.walk.proofs.put.Statement.{statement}
-use Rattle.walk.proofs.put.Tie as tie
+use Rattle.letters.proofs.put.Statement.{statement}
+use Rattle.letters.proofs.put.Tie as tie
 
 put-one-requires : tie.Need-put-one-requires
 put-one-requires c κs =
@@ -14,7 +14,7 @@ put-one-requires c κs =
     λ h. omega (
       arith,
       c .less .ensures,
-      pin-left (a .letter) (a .m .i) 1 3 (sym (c .before .has-top .ensures) ∙ h),
+      pin-left (a .letter) (a .m .i) 1 3 (sym (c .before .has-pin .ensures) ∙ h),
       start .pre .1,
       start .pre .2,
     )
@@ -28,7 +28,7 @@ put-one-requires-2 c κs =
       arith,
       c .less2 .ensures,
       pin-left (a .letter) (a .m .j) 2 3
-          (sym (c .before .has-bottom .ensures) ∙ h),
+          (sym (c .before .has-pin2 .ensures) ∙ h),
       start .pre .2,
       at-put-one .put-one .kept .0,
     )
@@ -36,13 +36,13 @@ put-one-requires-2 c κs =
 returns : tie.Need-returns
 returns c =
     let at-less2 = c .before .before .before in
-    let at-has-bottom = at-less2 .before in
-    let at-put-one = at-has-bottom .before .before .before .before in
+    let at-bottom = at-less2 .before in
+    let at-put-one = at-bottom .before .before .before .before in
     let at-less = at-put-one .before in
-    let at-has-top = at-less .before in
-    let start = at-has-top .before .before .before .before in
+    let at-top = at-less .before in
+    let start = at-top .before .before .before .before in
     let a = start .args in
-    put-written (a .p) (a .letter) (a .m) (a .columns .now) _ _ _ _ _ _ (at-has-top .has-top .ensures) (at-has-bottom .has-bottom .ensures)
+    put-written (a .p) (a .letter) (a .m) (a .columns .now) _ _ _ _ _ _ (at-top .has-pin .ensures) (at-bottom .has-pin2 .ensures)
     (at-less .less .ensures) (at-less2 .less2 .ensures) (at-put-one .put-one .ensures) (c .before .before .put-one2 .ensures)
 
 pub put-spec : {M : Type 1} → statement M

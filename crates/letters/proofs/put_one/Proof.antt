@@ -1,8 +1,8 @@
--- `walk::put_one` meets its contract.
+-- `letters::put_one` meets its contract.
 -- Assumes nothing.
 use borrow.Author.Needs.{needs}
-use Rattle.walk.proofs.put_one.Statement.{statement}
-use Rattle.walk.proofs.put_one.Tie as tie
+use Rattle.letters.proofs.put_one.Statement.{statement}
+use Rattle.letters.proofs.put_one.Tie as tie
 
 slice-write-columns : tie.Need-slice-write-columns
 slice-write-columns c = c .before .pre (c .if1 .taken)
