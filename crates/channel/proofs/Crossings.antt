@@ -1,7 +1,7 @@
 -- What document 01 says of crossing ("Column, crossing, density"): nets that cross nothing, and the density with no terminals.
 -- Assumes nothing.
 use Prim.Native.Nat.{ℕ, zero, suc}
-use mathlib.Core.Path.{_≡_, refl, ap}
+use mathlib.Core.Path.{_≡_, refl}
 use mathlib.Core.List.{List, [], _∷_}
 use mathlib.Core.Bool.{Bool, true, false, cond, _&&_, _||_, and-false, or-self, or-false}
 use native.Mathlib.Omega.{arith}

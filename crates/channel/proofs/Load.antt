@@ -3,7 +3,7 @@
 use Prim.Native.Nat.{ℕ, suc, _+_, _≤_, max}
 use mathlib.Core.Path.{_≡_, refl, sym, ap, ap₂, _∙_, fun-ext}
 use mathlib.Core.List.{List, [], _∷_, _++_, append-assoc}
-use mathlib.Core.Bool.{Bool, true, false, cond, _&&_, _||_, and-false, or-false, false≢true}
+use mathlib.Core.Bool.{Bool, true, false, cond, _||_, and-false, or-false, false≢true}
 use native.Mathlib.Nat.{le-refl, le-trans, le-max-right, zero-max}
 use native.Mathlib.Numerals.{add-one}
 use native.Mathlib.Omega.{arith}

@@ -1,7 +1,7 @@
 -- The first and last place of a net on one side say which stretches of the side it stands in.
 -- Assumes nothing.
 use Prim.Native.Nat.{ℕ, zero, suc, _+_, _-_, _≤_, _<_, min, max}
-use mathlib.Core.Path.{_≡_, refl, sym, ap, _∙_}
+use mathlib.Core.Path.{_≡_, refl, sym, ap}
 use mathlib.Core.List.{List, [], _∷_}
 use mathlib.Core.Bool.{Bool, true, false, _&&_, _||_, or-assoc, or-false, and-true, and-false}
 use native.Mathlib.Omega.{arith}

@@ -4,8 +4,6 @@ ghost use mathlib.Core.Path.{_≡_};
 ghost use mathlib.Core.List.{_++_};
 ghost use Prim.Native.Nat.{_+_, _*_, _≤_, _<_, min, max};
 ghost use lib.ListN.{length, take, drop};
-ghost use lib.Dec.{eqb};
-ghost use Rattle.channel.specs.Density.{any};
 ghost use Rattle.places.specs.Places.{reached, endsOf, placesOf, numbersOf, placesAt, AsksPlaces, Put, PlacesListed};
 
 // The first and last place of a net on one side, from 1; 255 and 0 if it has no pin there.

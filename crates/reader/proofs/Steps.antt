@@ -6,8 +6,7 @@ use mathlib.Core.Path.{_≡_, refl, sym, _∙_, ap}
 use mathlib.Core.List.{List, [], _∷_, _++_}
 use native.Mathlib.Omega.{arith}
 use lib.ListN.{length, length-append, take}
-use Rattle.channel.specs.Sheet.{Terminal, Sheet}
-use Rattle.format.specs.declared.Side.{Side}
+use Rattle.channel.specs.Sheet.{Sheet}
 use Rattle.format.specs.declared.Side.the-variants.{Top, Bottom}
 use Rattle.soundness.specs.Read.{Read, read}
 use Rattle.soundness.specs.Read.Read.{sound, refused}
