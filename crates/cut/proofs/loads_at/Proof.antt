@@ -1,4 +1,5 @@
--- `cut::loads_at` meets its contract. The loop's invariant: the loads are those of the first m nets' places. The measure is how many are left.
+-- `cut::loads_at` meets its contract. The loop's invariant: the loads are those of the first m nets' places. The measure is how many are
+-- left.
 -- Assumes nothing.
 use Prim.Native.Nat.{_≤_, _-_, _/_}
 use mathlib.Core.Path.{_≡_, refl, sym, ap, ap₂, _∙_}

@@ -21,16 +21,17 @@ all c =
     (square (sheet .columns) (sheet .columns) (omega arith) (omega arith))
 
 mul-plane : tie.Need-mul-plane
-mul-plane c = omega (arith, square (c .before .before .args .sheet .columns) (c .before .before .args .sheet .columns) (omega arith) (omega arith))
+mul-plane c =
+    let sheet = c .before .before .args .sheet in
+    omega (arith, square (sheet .columns) (sheet .columns) (omega arith) (omega arith))
 
 mul-result : tie.Need-mul-result
-mul-result c = omega (arith, square (c .before .before .before .before .args .sheet .top) (c .before .before .before .before .args .sheet .bottom) (omega arith) (omega arith))
+mul-result c =
+    let sheet = c .before .before .before .before .args .sheet in
+    omega (arith, square (sheet .top) (sheet .bottom) (omega arith) (omega arith))
 
 mul-result-2 : tie.Need-mul-result-2
 mul-result-2 c = omega (arith, all c)
-
-returns : tie.Need-returns
-returns c = all c
 
 pub cells-of-spec : {M : Type 1} → statement M
 cells-of-spec =
@@ -47,4 +48,4 @@ cells-of-spec =
     (λ c. search needs)
     mul-result
     mul-result-2
-    returns)
+    all)
