@@ -21,7 +21,7 @@ use Rattle.reach.specs.Reach.{near, reach}
 use Rattle.reach.specs.Greedy.{next, lastAt, smallestOf, letterFits, choice}
 use Rattle.reach.proofs.Bounds.{Held, reach-held}
 use Rattle.pass.specs.declared.Plan.{Plan}
-use Rattle.letters.specs.declared.Mark.{Mark}
+use Rattle.letters.specs.declared.Progress.{Progress}
 use Rattle.rules.specs.Sides.{SideRules}
 use Rattle.walk.specs.Walk.{stepsTo, standsAt, numberFits, lefts, rowFits, rowMeets, someLeft}
 use Rattle.walk.specs.Walk.{someHere, emptyFits, topFits, bottomFits, choiceIn}
@@ -110,7 +110,7 @@ module _
     (c i j x y : ℕ) (tops : OnSide (n .p) (n .l) (suc c) i x) (bottoms : OnSide (n .q) (n .l) (suc c) j y)
   where
     -- where it has come to
-    abbrev mark : Mark
+    abbrev mark : Progress
     mark = record { c = suc c; i = i; j = j; top = x; bottom = y }
 
     small : n .l ≤ 64

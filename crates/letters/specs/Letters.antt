@@ -5,7 +5,7 @@ use mathlib.Core.List.{List}
 use mathlib.Core.Bool.{Bool, cond, _&&_, _||_}
 use lib.ListN.{set}
 use lib.Dec.{ltb, eqb}
-use Rattle.letters.specs.declared.Mark.{Mark}
+use Rattle.letters.specs.declared.Progress.{Progress}
 
 -- a letter has a pin of a side, whose own letter is that of its pin alone, if one of n is left; a pin that is not there is not placed
 abbrev pub hasPin : ℕ → ℕ → ℕ → Bool
@@ -18,7 +18,7 @@ abbrev pub hasBottomPin : ℕ → ℕ → Bool
 hasBottomPin letter j = hasPin 2 letter j
 
 -- the walk goes on behind a letter
-abbrev pub behind : ℕ → Mark → Mark
+abbrev pub behind : ℕ → Progress → Progress
 behind letter m =
     record {
       c = m .c - 1;
@@ -29,7 +29,7 @@ behind letter m =
     }
 
 -- the columns that a letter writes
-abbrev pub written : ℕ → ℕ → Mark → List ℕ → List ℕ
+abbrev pub written : ℕ → ℕ → Progress → List ℕ → List ℕ
 written p letter m columns =
     let tops : List ℕ = cond (hasTopPin letter (m .i)) (set columns (m .i - 1) (m .c)) columns in
     cond (hasBottomPin letter (m .j)) (set tops (p + (m .j - 1)) (m .c)) tops

@@ -7,7 +7,7 @@ ghost use Rattle.letters.specs.Letters.{hasPin, behind, written};
 
 // How far the walk has come: c columns are still to be lettered, i top and j bottom pins to be placed, and the pins
 // placed last stand in the columns top and bottom.
-pub struct Mark {
+pub struct Progress {
     pub c: usize,
     pub i: usize,
     pub j: usize,
@@ -44,13 +44,13 @@ fn pick(yes: bool, a: usize, b: usize) -> usize
 }
 
 // The walk behind a letter.
-pub fn behind(letter: u8, m: Mark) -> Mark
+pub fn behind(letter: u8, m: Progress) -> Progress
     requires { ⌜ 0 < m .c ⌝ }
     ensures { λ r. ⌜ r ≡ behind letter m ⌝ }
 {
     let top = has_pin(TOP, letter, m.i);
     let bottom = has_pin(BOTTOM, letter, m.j);
-    Mark {
+    Progress {
         c: m.c - 1,
         i: pick(top, less(m.i), m.i),
         j: pick(bottom, less(m.j), m.j),
@@ -70,7 +70,7 @@ fn put_one(columns: &mut [u8], yes: bool, at: usize, c: u8)
 }
 
 // Writes a letter's columns.
-pub fn put(columns: &mut [u8], p: usize, letter: u8, m: Mark)
+pub fn put(columns: &mut [u8], p: usize, letter: u8, m: Progress)
     requires { ⌜ (m .c ≤ 64) × (m .i ≤ p) × (p + m .j ≤ length (now columns)) ⌝ }
     ensures { λ _. ⌜ now (columns .exit) ≡ written p letter m (now (columns .entry)) ⌝ }
 {

@@ -3,7 +3,7 @@
 use Prim.Native.Nat.{ℕ, zero, suc, _+_, _-_, _≤_, _<_, min}
 use mathlib.Core.Path.{_≡_, refl, sym, ap}
 use mathlib.Core.List.{List}
-use mathlib.Core.Bool.{Bool, true, false, cond, _&&_, _||_, and-false}
+use mathlib.Core.Bool.{Bool, true, false, cond, _&&_, and-false, or-false}
 use native.Mathlib.Omega.{arith}
 use native.Mathlib.Nat.{le-refl}
 use lib.Dec.{leb, ltb, eqb, leb·zero}
@@ -14,7 +14,7 @@ use Rattle.bits.specs.Bits.{bitOf}
 use Rattle.bits.proofs.Laws.{word-cong}
 use Rattle.entry.specs.declared.Grid.{Grid}
 use Rattle.table.specs.Planes.{heldAt, meeting}
-use Rattle.letters.specs.declared.Mark.{Mark}
+use Rattle.letters.specs.declared.Progress.{Progress}
 use Rattle.letters.specs.Letters.{hasTopPin, hasBottomPin, behind, written}
 use Rattle.walk.specs.Walk.{stepsTo, standsAt, numberFits, lefts, rowFits, rowMeets, someLeft, someHere, emptyMeets, topMeets}
 use Rattle.walk.specs.Walk.{emptyFits, topFits, bottomFits, choiceIn, walkColumns}
@@ -29,7 +29,7 @@ stands-high i n at x h l g = by-test (eqb i n) refl
     by-test false e = omega (arith, h (omega (arith, eqb-false i n e)))
 
 -- the numbers left of the column, none where all pins are to stand in it or behind
-module _ (rules : List ℕ) (q : ℕ) (m : Mark) (y : ℕ) where
+module _ (rules : List ℕ) (q : ℕ) (m : Progress) (y : ℕ) where
   pub no-lefts : m .c - 1 < m .j → false ≡ lefts rules q m y
   no-lefts h = rw (lt-leb (m .j) (m .c - 1) h)
 
@@ -39,7 +39,7 @@ module _ (rules : List ℕ) (q : ℕ) (m : Mark) (y : ℕ) where
   some-lefts next by h en eb = rw (le-leb (m .j) (m .c - 1) h, en, eb)
 
 -- the rows asked
-module _ (work rules : List ℕ) (g : Grid) (p : ℕ) (m : Mark) (w : ℕ) where
+module _ (work rules : List ℕ) (g : Grid) (p : ℕ) (m : Progress) (w : ℕ) where
   pub none-left : m .c - 1 < m .i → false ≡ emptyMeets work rules g p m w
   none-left h = rw (lt-leb (m .i) (m .c - 1) h)
 
@@ -75,15 +75,11 @@ module _ (work rules : List ℕ) (g : Grid) (p : ℕ) (m : Mark) (w : ℕ) where
       none zero r f h = refl
       none (suc n) r f h = rw (lt-leb r n h) (none n r f (omega arith))
 
-      or-false : (a : Bool) → (a || false) ≡ a
-      or-false true = refl
-      or-false false = refl
-
       only : (r : ℕ) (f : ℕ → Bool) → anyBelow (suc r) (λ (x : ℕ). leb r x && f x) ≡ f r
       only r f = rw (le-leb r r (omega arith), none r r f (omega arith)) (or-false (f r))
 
 -- the questions by a word are the questions by the set that it holds
-module _ (work rules : List ℕ) (g : Grid) (p : ℕ) (m : Mark) (w : ℕ) (f : ℕ → Bool) (same : (y : ℕ) → y < 64 → bitOf w y ≡ f y) where
+module _ (work rules : List ℕ) (g : Grid) (p : ℕ) (m : Progress) (w : ℕ) (f : ℕ → Bool) (same : (y : ℕ) → y < 64 → bitOf w y ≡ f y) where
   row-same : (x : ℕ) → rowMeets work rules g p m (bitOf w) x ≡ rowMeets work rules g p m f x
   row-same x =
       ap (λ (t : Bool). rowFits work rules g p m x && t)
@@ -100,7 +96,7 @@ module _ (work rules : List ℕ) (g : Grid) (p : ℕ) (m : Mark) (w : ℕ) (f : 
       ap (λ (t : Bool). ltb 0 (m .i) && (leb (m .i) (m .c) && (ltb (m .c - m .i) (g .rows) && t))) (row-same (m .c - m .i))
 
 -- a bottom pin in the column
-module _ (work rules : List ℕ) (g : Grid) (p q : ℕ) (m : Mark) where
+module _ (work rules : List ℕ) (g : Grid) (p q : ℕ) (m : Progress) where
   pub no-pin-below : m .j ≡ 0 → false ≡ bottomFits work rules g p q m
   no-pin-below e = rw (le-ltb 0 (m .j) (omega arith))
 
@@ -132,7 +128,7 @@ module _ (work rules : List ℕ) (g : Grid) (p q : ℕ) (m : Mark) where
   chose-other b e t f = rw (e, t, f)
 
 -- the walk goes on with what it needs
-pub walks-on : (p q letter : ℕ) (m : Mark) → 0 < m .c → AsksStep p q m → AsksStep p q (behind letter m)
+pub walks-on : (p q letter : ℕ) (m : Progress) → 0 < m .c → AsksStep p q m → AsksStep p q (behind letter m)
 walks-on p q letter m some-left w =
     record {
       c = omega (arith, w .c);
@@ -157,7 +153,7 @@ walks-from p q l h =
 
 -- one letter of the walk
 pub walk-more :
-    (work rules : List ℕ) (g : Grid) (p q left letter : ℕ) (m m' : Mark) (columns columns' : List ℕ) → 0 < left
+    (work rules : List ℕ) (g : Grid) (p q left letter : ℕ) (m m' : Progress) (columns columns' : List ℕ) → 0 < left
     → letter ≡ choiceIn work rules g p q m → m' ≡ behind letter m → columns' ≡ written p letter m columns
     → walkColumns work rules g p q (left - 1) m' columns' ≡ walkColumns work rules g p q left m columns
 unfolding walkColumns
@@ -166,7 +162,7 @@ walk-more work rules g p q (suc left) letter m m' columns columns' h e em ec =
     rw (em, ec, e, less)
 
 pub walk-none :
-    (work rules : List ℕ) (g : Grid) (p q left : ℕ) (m : Mark) (columns : List ℕ) → left ≤ 0
+    (work rules : List ℕ) (g : Grid) (p q left : ℕ) (m : Progress) (columns : List ℕ) → left ≤ 0
     → columns ≡ walkColumns work rules g p q left m columns
 unfolding walkColumns
 walk-none work rules g p q zero m columns h = refl

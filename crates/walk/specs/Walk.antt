@@ -10,7 +10,7 @@ use Rattle.bits.specs.Bits.{bitOf, inWord}
 use Rattle.entry.specs.declared.Grid.{Grid}
 use Rattle.arrays.specs.Rules.{rangeAt}
 use Rattle.table.specs.Planes.{heldAt}
-use Rattle.letters.specs.declared.Mark.{Mark}
+use Rattle.letters.specs.declared.Progress.{Progress}
 use Rattle.letters.specs.Letters.{behind, written}
 
 -- every number below 64
@@ -27,14 +27,14 @@ standsAt i n at = cond (eqb i n) 63 (at - (i + 1))
 
 -- m : c columns are still to be lettered, i top and j bottom pins to be placed, and the pins placed last stand in the columns
 -- top and bottom. The numbers left of the column where the last bottom pin may stand
-module _ (rules : List ℕ) (q : ℕ) (m : Mark) where
+module _ (rules : List ℕ) (q : ℕ) (m : Progress) where
   abbrev pub numberFits : ℕ → Bool
   numberFits y = bitOf (stepsTo rules 1 (m .j) q) (standsAt (m .j) q (m .bottom) - y)
 
   abbrev pub lefts : ℕ → Bool
   lefts y = leb (m .j) (m .c - 1) && (leb y (m .c - 1 - m .j) && numberFits y)
 
-module _ (work rules : List ℕ) (g : Grid) (p : ℕ) (m : Mark) where
+module _ (work rules : List ℕ) (g : Grid) (p : ℕ) (m : Progress) where
   -- row x may hold the last top pin
   abbrev pub rowFits : ℕ → Bool
   rowFits x = bitOf (stepsTo rules 0 (m .i) p) (standsAt (m .i) p (m .top) - x)
@@ -57,7 +57,7 @@ module _ (work rules : List ℕ) (g : Grid) (p : ℕ) (m : Mark) where
   abbrev pub topMeets : ℕ → Bool
   topMeets w = someHere (bitOf w)
 
-module _ (work rules : List ℕ) (g : Grid) (p q : ℕ) (m : Mark) where
+module _ (work rules : List ℕ) (g : Grid) (p q : ℕ) (m : Progress) where
   -- the column can be empty, hold a top pin alone, or a bottom pin alone
   abbrev pub emptyFits : Bool
   emptyFits = someLeft work rules g p m (lefts rules q m)
@@ -76,7 +76,7 @@ module _ (work rules : List ℕ) (g : Grid) (p q : ℕ) (m : Mark) where
   choiceIn = cond emptyFits 0 (cond topFits 1 (cond bottomFits 2 3))
 
 -- the whole walk over the c columns that are left
-unfoldable pub walkColumns : List ℕ → List ℕ → Grid → ℕ → ℕ → ℕ → Mark → List ℕ → List ℕ
+unfoldable pub walkColumns : List ℕ → List ℕ → Grid → ℕ → ℕ → ℕ → Progress → List ℕ → List ℕ
 walkColumns work rules g p q zero m columns = columns
 walkColumns work rules g p q (suc c) m columns =
     let letter : ℕ = choiceIn work rules g p q m in

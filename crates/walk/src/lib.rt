@@ -3,7 +3,7 @@ use arrays::range;
 use bits::bit;
 use bits::single;
 use entry::Grid;
-use letters::Mark;
+use letters::Progress;
 use letters::behind;
 use letters::put;
 use table::back;
@@ -39,7 +39,7 @@ fn stands_at(i: usize, n: usize, at: usize) -> usize
 }
 
 // The numbers left of the column.
-fn left_numbers(rules: &[u64], q: usize, m: Mark) -> u64
+fn left_numbers(rules: &[u64], q: usize, m: Progress) -> u64
     requires { ⌜ (length (now rules) ≡ ruleWords) × (q ≤ pins) × (0 < m .c) × (m .c ≤ 64) × (m .j ≤ q) × (m .j < q → m .c < m .bottom) ⌝ }
     ensures { λ r. ⌜ ((y : ℕ) → y < 64 → bitOf r y ≡ lefts (now (rules .entry)) q m y) ⌝ }
 {
@@ -69,7 +69,7 @@ fn empty_fits(
     grid: Grid,
     p: usize,
     q: usize,
-    m: Mark,
+    m: Progress,
     lefts: u64,
 ) -> bool
     requires { ⌜ AsksWalk (now work) (now rules) grid p q × AsksStep p q m × (0 < m .c) ⌝ }
@@ -93,7 +93,7 @@ fn top_fits(
     grid: Grid,
     p: usize,
     q: usize,
-    m: Mark,
+    m: Progress,
     lefts: u64,
 ) -> bool
     requires { ⌜ AsksWalk (now work) (now rules) grid p q × AsksStep p q m × (0 < m .c) ⌝ }
@@ -117,7 +117,7 @@ fn top_fits(
 }
 
 // Whether it can hold a bottom pin alone.
-fn bottom_fits(work: &[u16], rules: &[u64], grid: Grid, p: usize, q: usize, m: Mark) -> bool
+fn bottom_fits(work: &[u16], rules: &[u64], grid: Grid, p: usize, q: usize, m: Progress) -> bool
     requires { ⌜ AsksWalk (now work) (now rules) grid p q × AsksStep p q m × (0 < m .c) ⌝ }
     ensures { λ r. ⌜ r ≡ bottomFits (now (work .entry)) (now (rules .entry)) grid p q m ⌝ }
 {
@@ -139,7 +139,7 @@ fn bottom_fits(work: &[u16], rules: &[u64], grid: Grid, p: usize, q: usize, m: M
 }
 
 // The smallest letter after which the rest can still be placed.
-fn choose(work: &[u16], rules: &[u64], grid: Grid, p: usize, q: usize, m: Mark) -> u8
+fn choose(work: &[u16], rules: &[u64], grid: Grid, p: usize, q: usize, m: Progress) -> u8
     requires { ⌜ AsksWalk (now work) (now rules) grid p q × AsksStep p q m × (0 < m .c) ⌝ }
     ensures { λ r. ⌜ r ≡ choiceIn (now (work .entry)) (now (rules .entry)) grid p q m ⌝ }
 {
@@ -170,7 +170,7 @@ pub fn walk(
     ensures { λ _. ⌜ now (columns .exit) ≡ walkColumns (now (work .entry)) (now (rules .entry)) grid p q l
         (record { c = l; i = p; j = q; top = 0; bottom = 0 }) (now (columns .entry)) ⌝ }
 {
-    let mut m = Mark {
+    let mut m = Progress {
         c: l,
         i: p,
         j: q,

@@ -14,7 +14,7 @@ put-one-requires c κs =
     λ h. omega (
       arith,
       c .less .ensures,
-      pin-left (a .letter) (a .m .i) 1 3 (sym (c .before .has-pin .ensures) ∙ h),
+      pin-left 1 (a .letter) (a .m .i) (sym (c .before .has-pin .ensures) ∙ h),
       start .pre .1,
       start .pre .2,
     )
@@ -27,8 +27,7 @@ put-one-requires-2 c κs =
     λ h. omega (
       arith,
       c .less2 .ensures,
-      pin-left (a .letter) (a .m .j) 2 3
-          (sym (c .before .has-pin2 .ensures) ∙ h),
+      pin-left 2 (a .letter) (a .m .j) (sym (c .before .has-pin2 .ensures) ∙ h),
       start .pre .2,
       at-put-one .put-one .kept .0,
     )

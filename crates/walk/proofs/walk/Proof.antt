@@ -5,7 +5,7 @@ use Prim.Native.Nat.{ℕ, _-_}
 use mathlib.Core.Path.{_≡_, refl, _∙_, sym, ap}
 use native.Mathlib.Omega.{arith}
 use lib.ListN.{length}
-use Rattle.letters.specs.declared.Mark.{Mark}
+use Rattle.letters.specs.declared.Progress.{Progress}
 use Rattle.walk.specs.Walk.{walkColumns}
 use Rattle.walk.specs.Walking.{AsksStep}
 use Rattle.walk.proofs.Choices.{walks-on, walks-from, walk-more, walk-none}
@@ -60,7 +60,7 @@ loop-again c =
     let start = at-loop .before .before .before .before in
     let a = start .args in
     let o = at-loop .loop in (
-      ap (λ (n : ℕ). n - 1) (o .inv .0) ∙ sym (ap (λ (x : Mark). x .c) (c .behind .ensures)),
+      ap (λ (n : ℕ). n - 1) (o .inv .0) ∙ sym (ap (λ (x : Progress). x .c) (c .behind .ensures)),
       rw (c .behind .ensures) (walks-on (a .p) (a .q) (at-choose .choose .result) (o .m)
           (omega (arith, at-loop-test .loop-test .taken, o .inv .0)) (o .inv .1)),
       at-put .put .kept .0 ∙ o .inv .2,
