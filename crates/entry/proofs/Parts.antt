@@ -3,7 +3,7 @@
 use Prim.Native.Nat.{ℕ, suc, _+_, _-_, _≤_, _<_}
 use mathlib.Core.Path.{_≡_, refl, sym, _∙_, ap, ap₂}
 use mathlib.Core.List.{List}
-use mathlib.Core.Bool.{Bool, true, false, _&&_, and-false}
+use mathlib.Core.Bool.{Bool, true, false, _&&_, and-false, and-comm}
 use native.Mathlib.Omega.{arith}
 use lib.Dec.{leb, ltb, eqb}
 use borrow.Author.Tests.{ltb-true, ltb-false, leb-true, leb-false, lt-ltb, le-ltb, eq-eqb, ne-eqb, eqb-true, eqb-false}
@@ -14,17 +14,6 @@ use Rattle.steps.specs.Stepped.{stepped}
 use Rattle.arrays.specs.Rules.{allowedAt, rangeAt}
 use Rattle.arrays.specs.Loads.{loadAt}
 use Rattle.entry.specs.Entry.{topPart, bottomPart, bothPart}
-
-pub and-true : (a : Bool) → (a && true) ≡ a
-and-true true = refl
-and-true false = refl
-
--- the order of the two factors
-and-swap : (a b : Bool) → (a && b) ≡ (b && a)
-and-swap true true = refl
-and-swap true false = refl
-and-swap false true = refl
-and-swap false false = refl
 
 module _ (rules loads : List ℕ) (bound i j : ℕ) (x y : ℕ) where
   module _ (above : ℕ → ℕ → Bool) where
@@ -49,7 +38,7 @@ module _ (rules loads : List ℕ) (bound i j : ℕ) (x y : ℕ) where
         → (found && mask) ≡ topPart rules loads bound i j above x y
     top-found found mask some-pin right light free e m =
         rw (lt-ltb 0 i (omega (arith, some-pin)), light, free, ← e, m)
-        (and-swap found (ltb y (x + i - j)) ∙ ap (λ (t : Bool). t && found) (by-test (ltb y (x + i - j)) refl))
+        (and-comm found (ltb y (x + i - j)) ∙ ap (λ (t : Bool). t && found) (by-test (ltb y (x + i - j)) refl))
       where
         by-test : (b : Bool) → ltb y (x + i - j) ≡ b → b ≡ ltb (y + j) (x + i)
         by-test true t = sym (lt-ltb (y + j) (x + i) (omega (arith, ltb-true y (x + i - j) t)))
@@ -71,7 +60,7 @@ module _ (rules loads : List ℕ) (bound i j : ℕ) (x y : ℕ) where
         rw (lt-ltb 0 j (omega (arith, some-pin)), light, ← e, ← f, ← m) (swap found free mask)
       where
         swap : (a b c : Bool) → ((a && b) && c) ≡ (c && (b && a))
-        swap true b c = and-swap b c ∙ ap (λ (t : Bool). c && t) (and-swap true b)
+        swap true b c = and-comm b c ∙ ap (λ (t : Bool). c && t) (and-comm true b)
         swap false b c = sym (rw (and-false b) (and-false c))
 
     pub all-behind : x + i < j → true ≡ ltb (x + i) (y + j)
@@ -114,7 +103,7 @@ module _ (rules loads : List ℕ) (bound i j : ℕ) (x y : ℕ) where
     pair-found rows here reached free some-top some-bottom right light clear each h r f =
         rw (lt-ltb 0 i (omega (arith, some-top)), lt-ltb 0 j (omega (arith, some-bottom)), light, clear, ← f)
         (ap₂ (λ (a b : Bool). a && b) (h ∙ same (eqb y (x + i - j)) refl)
-        (and-swap reached free
+        (and-comm reached free
         ∙ ap (λ (t : Bool). free && t)
         (r ∙ anyBelow-cong (suc y) _ _ (λ m l. ap (λ (t : Bool). bitOf (rangeAt rules 1 j) (y - m) && t) (each m)))))
       where

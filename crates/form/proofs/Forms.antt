@@ -20,9 +20,9 @@ use Rattle.format.specs.Format.{recordSize, partOf}
 use Rattle.form.specs.Form.{follows, laidOut, trailerCheck, formOf}
 
 -- neither of two tests holds where their disjunction does not
-or-false : (a b : Bool) → (a || b) ≡ false → (a ≡ false) × (b ≡ false)
-or-false true b h = absurd (true≢false h)
-or-false false b h = (refl, h)
+neither : (a b : Bool) → (a || b) ≡ false → (a ≡ false) × (b ≡ false)
+neither true b h = absurd (true≢false h)
+neither false b h = (refl, h)
 
 -- of two sections that fill a file before its trailer, the one that follows and the one that starts it end in the file
 module _ (first second : Part) (len : ℕ) (size : len ≡ recordSize * (first .count + second .count) + trailerSize) where
@@ -68,8 +68,8 @@ formed b h =
     let (mark, h₃) = orElse-sound (refuse (not (hasMark b CP)) Mark) _ h₂ in
     let (columns, h₄) = orElse-sound (refuse (eqb (t .columns) 0 || ltb 64 (t .columns)) Length) _ h₃ in
     let (counts, layout) = orElse-sound (refuse (ltb 64 (t .top .count) || ltb 64 (t .bottom .count)) Count) _ h₄ in
-    let (c₁, c₂) = or-false (eqb (t .columns) 0) (ltb 64 (t .columns)) (refuse-sound _ Length columns) in
-    let (p, q) = or-false (ltb 64 (t .top .count)) (ltb 64 (t .bottom .count)) (refuse-sound _ Count counts) in
+    let (c₁, c₂) = neither (eqb (t .columns) 0) (ltb 64 (t .columns)) (refuse-sound _ Length columns) in
+    let (p, q) = neither (ltb 64 (t .top .count)) (ltb 64 (t .bottom .count)) (refuse-sound _ Count counts) in
     let (top, bottom) = laid-out-room (t .top) (t .bottom) (length b) (not-false _ (refuse-sound _ Layout layout)) in
     let positive : t .columns ≡ 0 → ⊥ = eqb-false (t .columns) 0 c₁ in
     record {

@@ -1,4 +1,4 @@
--- Where the fields of a terminal's record stand, and which records are a side's (document 01, "The sheet").
+-- Where the fields of a terminal's record stand, and which part of a sheet is a side's (document 01, "The sheet").
 -- Assumes nothing.
 use Prim.Native.Nat.{ℕ, zero, suc, _+_}
 use mathlib.Core.List.{List, [], _∷_}

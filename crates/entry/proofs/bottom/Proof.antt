@@ -2,13 +2,13 @@
 -- Assumes nothing.
 use Prim.Native.Nat.{ℕ, _-_}
 use mathlib.Core.Path.{_∙_, sym, ap, ap₂}
-use mathlib.Core.Bool.{Bool, _&&_}
+use mathlib.Core.Bool.{Bool, _&&_, and-true}
 use native.Mathlib.Omega.{arith}
 use Rattle.bits.specs.Bits.{bitOf}
 use Rattle.steps.specs.Stepped.{stepped}
 use Rattle.bits.proofs.Laws.{bit-zero}
 use Rattle.rows.specs.Held.{held}
-use Rattle.entry.proofs.Parts.{no-bottom, bottom-heavy, bottom-found, all-behind, from-behind, and-true}
+use Rattle.entry.proofs.Parts.{no-bottom, bottom-heavy, bottom-found, all-behind, from-behind}
 use borrow.Author.Needs.{needs}
 use Rattle.entry.proofs.bottom.Statement.{statement}
 use Rattle.entry.proofs.bottom.Tie as tie

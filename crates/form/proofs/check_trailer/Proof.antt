@@ -1,7 +1,10 @@
 -- `form::check_trailer` meets its contract: at each return the tests that led there decide `trailerCheck`.
 -- Assumes nothing.
-use mathlib.Core.Path.{_∙_, sym}
+use mathlib.Core.Path.{_≡_, _∙_, sym}
+use mathlib.Core.Bool.{Bool, not}
 use borrow.Author.Tests.{eq-eqb, ne-eqb, lt-ltb, le-ltb}
+use Rattle.refusals.specs.declared.Refusal.the-variants.{Layout}
+use Rattle.refusals.specs.Refusals.{refuse}
 use Rattle.form.specs.Form.{trailerCheck}
 use borrow.Author.Needs.{needs}
 use Rattle.form.proofs.check_trailer.Statement.{statement}
@@ -34,37 +37,31 @@ returns-4 c =
       lt-ltb _ _ (c .if4 .taken),
     )
 
-returns-5 : tie.Need-returns-5
+-- where neither 3 nor 4 applies, 5 decides
+layout : (c : tie.After-laid-out) (b : Bool) → c .laid-out .result ≡ b
+    → let a = c .before .before .before .before .before .before .before .before .before .args in
+    refuse (not b) Layout ≡ trailerCheck (a .t) (a .len)
 unfolding trailerCheck
-returns-5 c =
-    let at-if3 = c .before .before .before .before in
+layout c b e =
+    let at-if3 = c .before .before .before in
     let at-if2 = at-if3 .before .before .before .before in
     let at-if1 = at-if2 .before in
     simp (
       ne-eqb _ _ (at-if1 .if1 .left),
       le-ltb _ _ (at-if2 .if2 .left),
       le-ltb _ _ (at-if3 .if3 .left),
-      le-ltb _ _
-          (c .before .before .if4 .left),
-      sym (c .before .laid-out .ensures) ∙ c .if5 .taken,
-    )
-
-returns-6 : tie.Need-returns-6
-unfolding trailerCheck
-returns-6 c =
-    let at-if3 = c .before .before .before .before in
-    let at-if2 = at-if3 .before .before .before .before in
-    let at-if1 = at-if2 .before in
-    simp (
-      ne-eqb _ _ (at-if1 .if1 .left),
-      le-ltb _ _ (at-if2 .if2 .left),
-      le-ltb _ _ (at-if3 .if3 .left),
-      le-ltb _ _
-          (c .before .before .if4 .left),
-      sym (c .before .laid-out .ensures) ∙ c .if5 .left,
+      le-ltb _ _ (c .before .if4 .left),
+      sym (c .laid-out .ensures) ∙ e,
     )
 
 pub check-trailer-spec : {M : Type 1} → statement M
 check-trailer-spec =
     tie.close
-    (tie.spec returns returns-2 returns-3 returns-4 (λ c κs. search needs) returns-5 returns-6)
+    (tie.spec
+    returns
+    returns-2
+    returns-3
+    returns-4
+    (λ c κs. search needs)
+    (λ c. layout (c .before) _ (c .if5 .taken))
+    (λ c. layout (c .before) _ (c .if5 .left)))
