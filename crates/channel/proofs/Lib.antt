@@ -1,5 +1,6 @@
 pub mod Below
 pub mod Sets
+pub mod Distances
 pub mod Words
 pub mod Columns
 pub mod Assignments

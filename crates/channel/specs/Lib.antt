@@ -1,6 +1,7 @@
 pub mod Below
 pub mod Sheet
 pub mod Assignment
+pub mod Distance
 pub mod Density
 pub mod Word
 pub mod Best
