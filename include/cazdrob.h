@@ -5,12 +5,12 @@
  *
  * What the caller owes, in every call:
  *   - no pointer is null, not even one with length 0;
- *   - each points to as many elements as its length says (density: to one), readable, and writable where it is not const, and is
- *     aligned for its type;
+ *   - each points to as many elements as its length says (density and amount: to one), readable, and writable where it is not const,
+ *     and is aligned for its type;
  *   - a length is at most PTRDIFF_MAX bytes;
- *   - what is written (columns and work of a search, density) overlaps nothing else that is passed;
+ *   - what is written (columns and work of a search, density, amount) overlaps nothing else that is passed;
  *   - during the call no other thread writes what was passed, and none reads what is written. Several threads may pass one sheet.
- * Nothing else is asked: every content of these buffers and every length has its answer.
+ * Nothing else is asked: every content of these buffers, every length and every byte has its answer.
  *
  * What is promised:
  *   - the result and what is left in every buffer are as said below, on good input and on bad;
@@ -30,7 +30,7 @@ extern "C" {
 
 /*
  * The numbers that are returned. Of several refusals that apply, the first is given: 1 to 5 in turn, then each terminal, top then bottom,
- * for 6, 7 and 8, then 9 to 11 in a search, 12 to 14 in a measurement.
+ * for 6, 7 and 8, then 9 to 11 in a search, 12 to 14 in a measurement: 13 over all terminals, then 14 over all pairs, top then bottom.
  */
 enum cazdrob_number {
     CAZDROB_OK = 0,
@@ -50,7 +50,7 @@ enum cazdrob_number {
     /* given by cazdrob_measure alone */
     CAZDROB_LIST_LENGTH = 12, /* the list is not p+q long */
     CAZDROB_NOT_ALLOWED = 13, /* a listed column is not in its terminal's set */
-    CAZDROB_OUT_OF_RANGE = 14 /* a distance is out of range */
+    CAZDROB_OUT_OF_RANGE = 14 /* a distance is out of range, by *amount columns */
 };
 
 /* Enough for every sound sheet: its bytes, and the columns of its terminals. */
@@ -64,12 +64,26 @@ uint32_t cazdrob_check(const uint8_t *sheet, size_t sheet_len);
 size_t cazdrob_cells(const uint8_t *sheet, size_t sheet_len);
 
 /*
- * The density of a column list: p+q columns, those of the top terminals in order, then those of the bottom terminals. Returns 0 with
- * the density in *density, or 1 to 8, 12, 13 or 14 with 0 there. The sheet and the list may overlap, as neither is written.
+ * By how many columns a terminal's distance to the one before it is out of range, -510 to 255. With d = column - before:
+ *   d - least     where d < least, which is tried first: negative, so many columns too close;
+ *   d - greatest  where d > greatest: positive, so many columns too far apart;
+ *   0             otherwise: in range.
+ * The search and the measurement test every distance so.
+ */
+int32_t cazdrob_distance(uint8_t before, uint8_t column, uint8_t least, uint8_t greatest);
+
+/*
+ * The density of a column list: p+q columns, those of the top terminals in order, then those of the bottom terminals. The sheet and the
+ * list may overlap, as neither is written. What density and amount held before plays no part.
+ *
+ *   returned          *density     *amount
+ *   0                 the density  0
+ *   14                0            cazdrob_distance of the first pair that is out of range: the top pairs in order, then the bottom pairs
+ *   1 to 8, 12 or 13  0            0
  */
 uint32_t cazdrob_measure(const uint8_t *sheet, size_t sheet_len,
                          const uint8_t *columns, size_t columns_len,
-                         uint32_t *density);
+                         uint32_t *density, int32_t *amount);
 
 /*
  * The best assignment: the least density and, of the assignments that have it, the one with the smallest word. What columns, work and

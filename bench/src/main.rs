@@ -3,6 +3,7 @@
 mod plain;
 mod sheets;
 
+use cazdrob::Refusal;
 use sheets::{open, sheet, Plan};
 use std::hint::black_box;
 use std::process::ExitCode;
@@ -28,6 +29,14 @@ enum Job {
     Clear,
 }
 
+/// A density, or the number and the amount of a refusal.
+type Answer = Result<u32, (u32, i32)>;
+
+fn refused(why: Refusal) -> (u32, i32) {
+    let amount = if let Refusal::OutOfRange { amount } = why { amount } else { 0 };
+    (why.number(), amount)
+}
+
 impl Trial {
     fn new(plan: &Plan) -> Trial {
         let sheet = sheet(plan);
@@ -36,13 +45,13 @@ impl Trial {
         Trial { sheet, list: columns.clone(), columns, work }
     }
 
-    fn job(&mut self, job: Job) -> Result<u32, u32> {
+    fn job(&mut self, job: Job) -> Answer {
         let sheet = black_box(&self.sheet[..]);
         let list = black_box(&self.list[..]);
         match job {
-            Job::Search => cazdrob::search(sheet, &mut self.columns, &mut self.work).map_err(|why| why.number()),
-            Job::PlainSearch => plain::search(sheet, &mut self.columns, &mut self.work),
-            Job::Measure => cazdrob::measure(sheet, list).map_err(|why| why.number()),
+            Job::Search => cazdrob::search(sheet, &mut self.columns, &mut self.work).map_err(refused),
+            Job::PlainSearch => plain::search(sheet, &mut self.columns, &mut self.work).map_err(|number| (number, 0)),
+            Job::Measure => cazdrob::measure(sheet, list).map_err(refused),
             Job::PlainMeasure => plain::measure(sheet, list),
             Job::Clear => {
                 black_box(&mut self.work[..]).fill(0);
@@ -52,7 +61,7 @@ impl Trial {
     }
 
     /// Both programs have to give the same answers and leave the same buffers; the columns found are the list to measure.
-    fn agree(&mut self) -> Result<Result<u32, u32>, String> {
+    fn agree(&mut self) -> Result<Answer, String> {
         let mut found = Vec::new();
         for job in [Job::Search, Job::PlainSearch] {
             self.columns.fill(0);
@@ -130,8 +139,8 @@ fn rows() -> Vec<(&'static str, Plan)> {
     ]
 }
 
-fn shown(answer: Result<u32, u32>) -> String {
-    answer.map_or_else(|number| format!("refused {number}"), |density| density.to_string())
+fn shown(answer: Answer) -> String {
+    answer.map_or_else(|(number, _)| format!("refused {number}"), |density| density.to_string())
 }
 
 fn span(seconds: f64) -> String {

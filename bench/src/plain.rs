@@ -278,26 +278,30 @@ pub fn search(sheet: &[u8], columns: &mut [u8], work: &mut [u16]) -> Result<u32,
     }
 }
 
-/// The density of a column list, or the number of a refusal.
-pub fn measure(sheet: &[u8], columns: &[u8]) -> Result<u32, u32> {
-    let channel = read(sheet)?;
+/// The density of a column list, or the number and the amount of a refusal.
+pub fn measure(sheet: &[u8], columns: &[u8]) -> Result<u32, (u32, i32)> {
+    let channel = read(sheet).map_err(|number| (number, 0))?;
     let p = channel.top.len();
     if columns.len() != p + channel.bottom.len() {
-        return Err(12);
+        return Err((12, 0));
     }
     let sides = [(&channel.top, &columns[..p]), (&channel.bottom, &columns[p..])];
     for (side, columns) in sides {
         for (terminal, &column) in side.iter().zip(columns) {
             if !terminal.allows(usize::from(column)) {
-                return Err(13);
+                return Err((13, 0));
             }
         }
     }
     for (side, columns) in sides {
         for k in 1..columns.len() {
             let distance = i32::from(columns[k]) - i32::from(columns[k - 1]);
-            if distance < side[k].least as i32 || distance > side[k].greatest as i32 {
-                return Err(14);
+            let (least, greatest) = (side[k].least as i32, side[k].greatest as i32);
+            if distance < least {
+                return Err((14, distance - least));
+            }
+            if distance > greatest {
+                return Err((14, distance - greatest));
             }
         }
     }

@@ -26,12 +26,23 @@ static const uint8_t A[60] = {
     0, 0, 2, 0,   24, 0, 2, 0, 3, 0, 'C', 'P',
 };
 static const uint8_t EMPTY[12] = {0, 0, 0, 0, 0, 0, 0, 0, 1, 0, 'C', 'P'};
+/* three terminals a side on eight columns, all allowed, with ranges that bind */
+static const uint8_t BOUND[84] = {
+    1, 0, 0, 0,   255, 0, 0, 0, 0, 0, 0, 0, /* T 1 */
+    2, 0, 2, 4,   255, 0, 0, 0, 0, 0, 0, 0, /* T 2 */
+    3, 0, 1, 1,   255, 0, 0, 0, 0, 0, 0, 0, /* T 3 */
+    3, 0, 0, 0,   255, 0, 0, 0, 0, 0, 0, 0, /* B 1 */
+    2, 0, 3, 3,   255, 0, 0, 0, 0, 0, 0, 0, /* B 2 */
+    1, 0, 1, 255, 255, 0, 0, 0, 0, 0, 0, 0, /* B 3 */
+    0, 0, 3, 0,   36, 0, 3, 0, 8, 0, 'C', 'P',
+};
 
 /* The lent buffers are the middle of longer ones that are full of these. */
 enum { FRONT = 16, COLUMNS = 10, CELLS = 200 };
 static const uint8_t COLUMN = 0xa5;
 static const uint16_t CELL = 0x5aa5;
 static const uint32_t DENSITY = 0xdeadbeef;
+static const int32_t AMOUNT = -0x5aa55aa5;
 
 struct lent {
     uint32_t number, density;
@@ -78,26 +89,34 @@ static int refused(struct lent l, uint32_t number, size_t cleared) {
     return l.number == number && l.density == 0 && columns_are(&l, NULL, 0) && zeros_are(&l, cleared) && l.sheet_kept;
 }
 
+/* whether a measurement returns the number and leaves the density, the amount and nothing else */
+static int measures(const uint8_t *sheet, size_t len, const uint8_t *list, size_t count, uint32_t number, uint32_t wanted, int32_t by) {
+    uint32_t density[3] = {DENSITY, DENSITY, DENSITY};
+    int32_t amount[3] = {AMOUNT, AMOUNT, AMOUNT};
+    return cazdrob_measure(sheet, len, list, count, &density[1], &amount[1]) == number && density[1] == wanted && amount[1] == by &&
+           density[0] == DENSITY && density[2] == DENSITY && amount[0] == AMOUNT && amount[2] == AMOUNT;
+}
+
+/* a measurement on sheet BOUND that is refused with 14 and this amount */
+static int out_of_range(uint8_t t1, uint8_t t2, uint8_t t3, uint8_t b1, uint8_t b2, uint8_t b3, int32_t by) {
+    const uint8_t list[6] = {t1, t2, t3, b1, b2, b3};
+    return measures(BOUND, 84, list, 6, CAZDROB_OUT_OF_RANGE, 0, by);
+}
+
 /* sheet A with one byte changed; every function that reads it gives the number */
 static int refuses(size_t at, uint8_t byte, uint32_t number) {
     uint8_t sheet[60];
-    static const uint8_t list[4] = {2, 3, 1, 2};
-    uint32_t density = DENSITY;
+    static const uint8_t list[4] = {2, 2, 1, 2}; /* 14 of sheet A as it is */
     memcpy(sheet, A, sizeof A);
     sheet[at] = byte;
-    return cazdrob_check(sheet, 60) == number && cazdrob_cells(sheet, 60) == 0 &&
-           cazdrob_measure(sheet, 60, list, 4, &density) == number && density == 0 && refused(search(sheet, 60, 4, 144), number, 0);
-}
-
-static int measures(const uint8_t *list, size_t len, uint32_t number, uint32_t wanted) {
-    uint32_t density[3] = {DENSITY, DENSITY, DENSITY};
-    return cazdrob_measure(A, 60, list, len, &density[1]) == number && density[1] == wanted && density[0] == DENSITY &&
-           density[2] == DENSITY;
+    return cazdrob_check(sheet, 60) == number && cazdrob_cells(sheet, 60) == 0 && measures(sheet, 60, list, 4, number, 0, 0) &&
+           refused(search(sheet, 60, 4, 144), number, 0);
 }
 
 int main(void) {
     static const uint8_t best[4] = {2, 3, 1, 2}, leftmost[4] = {1, 2, 1, 2}, rival[4] = {1, 2, 2, 3};
     static const uint8_t shared[4] = {2, 2, 1, 3}, zero[4] = {2, 2, 0, 1}, above[4] = {2, 65, 1, 2};
+    static const uint8_t bound[6] = {1, 3, 4, 1, 4, 5}, beyond[6] = {5, 2, 3, 1, 4, 9};
     uint8_t sheet[60];
 
     EXPECT(cazdrob_check(A, 60) == 0);
@@ -130,14 +149,51 @@ int main(void) {
     EXPECT(cazdrob_check(sheet, 60) == 0);
     EXPECT(refused(search(sheet, 60, 10, 200), CAZDROB_NO_ASSIGNMENT, 144));
 
-    EXPECT(measures(best, 4, 0, 1));
-    EXPECT(measures(leftmost, 4, 0, 2));
-    EXPECT(measures(rival, 4, 0, 1));
-    EXPECT(measures(best, 3, CAZDROB_LIST_LENGTH, 0));
-    EXPECT(measures(best, 0, CAZDROB_LIST_LENGTH, 0));
-    EXPECT(measures(zero, 4, CAZDROB_NOT_ALLOWED, 0));
-    EXPECT(measures(above, 4, CAZDROB_NOT_ALLOWED, 0));
-    EXPECT(measures(shared, 4, CAZDROB_OUT_OF_RANGE, 0));
+    /* in range at both ends and between them, and one column out of each */
+    EXPECT(cazdrob_distance(3, 5, 2, 4) == 0);
+    EXPECT(cazdrob_distance(3, 6, 2, 4) == 0);
+    EXPECT(cazdrob_distance(3, 7, 2, 4) == 0);
+    EXPECT(cazdrob_distance(3, 4, 2, 4) == -1);
+    EXPECT(cazdrob_distance(3, 8, 2, 4) == 1);
+    EXPECT(cazdrob_distance(5, 2, 2, 255) == -5);
+    /* bytes that no sheet has: the ends of all amounts, and nothing wraps */
+    EXPECT(cazdrob_distance(0, 0, 0, 0) == 0);
+    EXPECT(cazdrob_distance(0, 255, 255, 255) == 0);
+    EXPECT(cazdrob_distance(255, 0, 255, 255) == -510);
+    EXPECT(cazdrob_distance(255, 0, 0, 0) == -255);
+    EXPECT(cazdrob_distance(0, 255, 0, 0) == 255);
+    EXPECT(cazdrob_distance(0, 255, 0, 254) == 1);
+    EXPECT(cazdrob_distance(128, 127, 0, 255) == -1);
+    /* least above greatest: too close is tried first */
+    EXPECT(cazdrob_distance(0, 1, 9, 2) == -8);
+    EXPECT(cazdrob_distance(0, 5, 9, 2) == -4);
+    EXPECT(cazdrob_distance(0, 9, 9, 2) == 7);
+
+    EXPECT(measures(A, 60, best, 4, 0, 1, 0));
+    EXPECT(measures(A, 60, leftmost, 4, 0, 2, 0));
+    EXPECT(measures(A, 60, rival, 4, 0, 1, 0));
+    EXPECT(measures(EMPTY, 12, best, 0, 0, 0, 0));
+    EXPECT(measures(BOUND, 84, bound, 6, 0, 3, 0));
+    EXPECT(measures(A, 11, shared, 4, CAZDROB_SHORT, 0, 0));
+    EXPECT(measures(A, 60, shared, 3, CAZDROB_LIST_LENGTH, 0, 0));
+    EXPECT(measures(A, 60, shared, 0, CAZDROB_LIST_LENGTH, 0, 0));
+    EXPECT(measures(A, 60, zero, 4, CAZDROB_NOT_ALLOWED, 0, 0));
+    EXPECT(measures(A, 60, above, 4, CAZDROB_NOT_ALLOWED, 0, 0));
+    EXPECT(measures(BOUND, 84, beyond, 6, CAZDROB_NOT_ALLOWED, 0, 0));
+    EXPECT(measures(A, 60, shared, 4, CAZDROB_OUT_OF_RANGE, 0, -1));
+    /* a bad pair on top, and at the bottom */
+    EXPECT(out_of_range(5, 2, 3, 1, 4, 5, -5));
+    EXPECT(out_of_range(1, 6, 7, 1, 4, 5, 1));
+    EXPECT(out_of_range(1, 3, 3, 1, 4, 5, -1));
+    EXPECT(out_of_range(1, 3, 8, 1, 4, 5, 4));
+    EXPECT(out_of_range(1, 3, 4, 1, 2, 5, -2));
+    EXPECT(out_of_range(1, 3, 4, 1, 7, 8, 3));
+    EXPECT(out_of_range(1, 3, 4, 2, 5, 4, -2));
+    /* several: the first of its side, and top before bottom */
+    EXPECT(out_of_range(1, 8, 2, 1, 4, 5, 3));
+    EXPECT(out_of_range(1, 3, 4, 1, 8, 8, 4));
+    EXPECT(out_of_range(1, 3, 3, 1, 8, 8, -1));
+    EXPECT(out_of_range(1, 3, 8, 5, 1, 1, 4));
 
     printf("%u passed, %u failed\n", passed, failed);
     return failed > 0;

@@ -1,9 +1,13 @@
--- Demands 1 and 2 of the C functions: what a call of `cazdrob_search` or `cazdrob_measure` returned and left.
+-- Demands 1 and 2 of the C functions: what a call of `cazdrob_search` or `cazdrob_measure` returned and left, and what a call of
+-- `cazdrob_distance` says.
 -- Assumes nothing.
 use Prim.Native.Nat.{ℕ}
-use mathlib.Core.Path.{refl}
+use mathlib.Core.Path.{_≡_, refl}
 use mathlib.Core.List.{List}
 use lib.ListN.{length}
+use lib.IntN.{ℤ}
+use Rattle.channel.specs.Distance.{amount, Says}
+use Rattle.channel.proofs.Distances.{amount-says}
 use Rattle.search.specs.Answer.{searchedOf, Searches}
 use Rattle.search.specs.Returned.{Returned}
 use Rattle.search.proofs.Returned.{one-search}
@@ -19,6 +23,9 @@ module _ {bytes buffer work buffer' work' : List ℕ} {density' r : ℕ} (host :
   pub host-search : Returned bytes buffer work buffer' work' r density'
   host-search = rw (host .number, host .density) (one-search _ _ _ _ _ _ library-search)
 
-pub host-measurement : {bytes columns : List ℕ} {density' r : ℕ} → HostMeasures bytes columns density' r
-    → measure.Returned bytes columns r density'
-host-measurement host = rw (host .number, host .density) (one-measurement _ _ _ refl)
+pub host-measurement : {bytes columns : List ℕ} {density' : ℕ} {amount' : ℤ} {r : ℕ} → HostMeasures bytes columns density' amount' r
+    → measure.Returned bytes columns r density' amount'
+host-measurement host = rw (host .number, host .density, host .amount) (one-measurement _ _ _ refl)
+
+pub host-distance : {least greatest before column : ℕ} {r : ℤ} → r ≡ amount least greatest before column → Says least greatest before column r
+host-distance e = rw e (amount-says _ _ _ _)

@@ -4,6 +4,7 @@ use Prim.Native.Nat.{ℕ}
 use mathlib.Core.Path.{_≡_}
 use mathlib.Core.List.{List}
 use lib.ListN.{length}
+use lib.IntN.{ℤ}
 use Rattle.refusals.specs.Refusals as refusals
 use Rattle.refusals.specs.declared.Checked.{Checked}
 use Rattle.refusals.specs.declared.Checked.the-variants.{Sound, Refused}
@@ -17,10 +18,11 @@ abbrev pub checkNumber : Checked → ℕ
 checkNumber Sound = 0
 checkNumber (Refused why) = refusals.numberOf why
 
--- the promise of a measurement: its number, and the density it leaves
-pub record HostMeasures (bytes columns : List ℕ) (density' r : ℕ) : Type 0 where
+-- the promise of a measurement: its number, and the density and the amount that it leaves
+pub record HostMeasures (bytes columns : List ℕ) (density' : ℕ) (amount' : ℤ) (r : ℕ) : Type 0 where
   pub number : r ≡ measured.numberOf (measuredOf bytes columns)
   pub density : density' ≡ measured.densityOf (measuredOf bytes columns)
+  pub amount : amount' ≡ measured.amountOf (measuredOf bytes columns)
 
 -- the promise of a search: its number, the density it leaves, and both buffers at exit
 pub record HostSearches (bytes buffer work buffer' work' : List ℕ) (density' r : ℕ) : Type 0 where

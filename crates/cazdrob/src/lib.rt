@@ -2,6 +2,7 @@
 // anything of its caller but what the types of its parameters say.
 use refusals::Checked;
 ghost use mathlib.Core.Path.{_≡_};
+ghost use Rattle.channel.specs.Distance.{amount};
 ghost use Rattle.soundness.specs.Check.{checkOf};
 ghost use Rattle.sheet.specs.Parts.{shapeOf};
 ghost use Rattle.cazdrob.specs.Host.{checkNumber, HostMeasures, HostSearches};
@@ -33,13 +34,35 @@ pub extern "C" fn cazdrob_cells(s: &[u8]) -> usize
     shape.cells
 }
 
-// Measures a column list: 0 with its density, or the number of a refusal with density 0.
+// By how many columns the distance from the column before to this one is out of the range from least to greatest: 0 in range, negative
+// where it is too short, which is tried first, positive where it is too long.
 #[no_mangle]
-pub extern "C" fn cazdrob_measure(s: &[u8], columns: &[u8], density: &mut u32) -> u32
-    ensures { λ r. ⌜ HostMeasures (now (s .entry)) (now (columns .entry)) (now (density .exit)) r ⌝ }
+pub extern "C" fn cazdrob_distance(before: u8, column: u8, least: u8, greatest: u8) -> i32
+    ensures { λ r. ⌜ r ≡ amount least greatest before column ⌝ }
+{
+    wide_amount(terminal::amount(before, column, least, greatest))
+}
+
+fn wide_amount(x: i16) -> i32
+    ensures { λ r. ⌜ r ≡ x ⌝ }
+{
+    x as i32
+}
+
+// Measures a column list: 0 with its density, or the number of a refusal with density 0. With 14 comes the amount by which the first bad
+// pair's distance is out of range, with every other answer 0.
+#[no_mangle]
+pub extern "C" fn cazdrob_measure(
+    s: &[u8],
+    columns: &[u8],
+    density: &mut u32,
+    amount: &mut i32,
+) -> u32
+    ensures { λ r. ⌜ HostMeasures (now (s .entry)) (now (columns .entry)) (now (density .exit)) (now (amount .exit)) r ⌝ }
 {
     let answer = measure::measure(s, columns);
     *density = measured::density_of(answer);
+    *amount = wide_amount(measured::amount_of(answer));
     wide(measured::number_of(answer))
 }
 

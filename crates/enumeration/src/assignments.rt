@@ -17,26 +17,39 @@ pub struct Best {
     pub lower: u64,
 }
 
-// Whether each column but a side's first keeps its distance from the one before.
-pub fn distances_fit(sheet: Sheet, list: List) -> bool {
+// The amount of the first distance that is out of range, top pairs before bottom pairs; 0 where none is.
+pub fn first_amount(sheet: Sheet, list: List) -> i16 {
     let end = pins(sheet);
     let top = sheet.top as usize;
     let mut t = 1;
     while t < end {
         let terminal = sheet.terminals[t];
-        if t != top && !in_range(list[t - 1], list[t], terminal.least, terminal.greatest) {
-            return false;
+        if t != top {
+            let found = amount(list[t - 1], list[t], terminal.least, terminal.greatest);
+            if found != 0 {
+                return found;
+            }
         }
         t += 1;
     }
-    true
+    0
 }
 
-fn in_range(before: u8, here: u8, least: u8, greatest: u8) -> bool {
-    if here < before {
-        return false;
+// The columns by which a distance is out of range: negative before the first column in range, which is tried first,
+// positive behind the last.
+fn amount(before: u8, here: u8, least: u8, greatest: u8) -> i16 {
+    let first = before as u16 + least as u16;
+    let last = before as u16 + greatest as u16;
+    let column = here as u16;
+    if column < first {
+        // -n is !(n - 1)
+        return !((first - column - 1) as i16);
     }
-    least <= here - before && here - before <= greatest
+    if last < column {
+        (column - last) as i16
+    } else {
+        0
+    }
 }
 
 // The better of two: less density, or the same and the smaller word.
@@ -63,7 +76,7 @@ fn better(a: Best, b: Best) -> Best {
 // The better of a list, if it is an assignment, and the best so far.
 fn weigh(number: u64, sheet: Sheet, best: Best) -> Best {
     let list = list_of(number, sheet);
-    if !distances_fit(sheet, list) {
+    if first_amount(sheet, list) != 0 {
         return best;
     }
     let this = Best {

@@ -5,8 +5,8 @@ mod lists;
 mod words;
 
 pub use assignments::Best;
-pub use assignments::distances_fit;
 pub use assignments::find_best;
+pub use assignments::first_amount;
 pub use crossings::density;
 pub use lists::count_lists;
 pub use lists::list_of;

@@ -1,5 +1,6 @@
 // Compares the library's search with a separately written exhaustive one on many small sheets, and its measurements
 // with the program's own reading of the rules.
+use measures::Tally;
 use printing::number;
 use std::num::wrapping_add_u64;
 use trials::Trial;
@@ -11,12 +12,12 @@ const SHEETS: u64 = 100000;
 
 const MEASUREMENTS: u64 = SHEETS * measures::LISTS as u64;
 
-// Of the sheets so far: those with an assignment, those with a tie, the measured lists that are assignments, and the
-// sheets on which a call did not do what it must.
+// Of the sheets so far: those with an assignment, those with a tie, the tally of the measured lists, and the sheets on
+// which a call did not do what it must.
 struct Counts {
     found: u64,
     tied: u64,
-    assignments: u64,
+    tally: Tally,
     wrong: u64,
 }
 
@@ -24,18 +25,21 @@ fn add(counts: Counts, trial: Trial) -> Counts {
     Counts {
         found: wrapping_add_u64(counts.found, trial.found as u64),
         tied: wrapping_add_u64(counts.tied, trial.tied as u64),
-        assignments: wrapping_add_u64(counts.assignments, trial.assignments),
+        tally: measures::together(counts.tally, trial.tally),
         wrong: wrapping_add_u64(counts.wrong, trial.wrong as u64),
     }
 }
 
 fn summary(counts: Counts) {
+    let tally = counts.tally;
     number(b"", SHEETS);
     number(b" sheets, ", counts.found);
     number(b" with an assignment, ", counts.tied);
     number(b" with a tie, ", MEASUREMENTS);
-    number(b" measurements, ", counts.assignments);
-    number(b" of an assignment, ", counts.wrong);
+    number(b" measurements, ", tally.assignments);
+    number(b" of an assignment, ", tally.short);
+    number(b" refused for a distance too short, ", tally.long);
+    number(b" for one too long, ", counts.wrong);
     printing::text(b" differences\n");
 }
 
@@ -43,7 +47,7 @@ fn compare_all(work: &mut [u16]) {
     let mut counts = Counts {
         found: 0,
         tied: 0,
-        assignments: 0,
+        tally: measures::no_lists(),
         wrong: 0,
     };
     let mut n: u64 = 0;

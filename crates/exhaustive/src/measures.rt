@@ -39,16 +39,40 @@ const CUT: u8 = 7;
 
 pub const LISTS: u8 = 8;
 
-// How many of a sheet's lists are assignments, and whether one had a wrong answer.
-pub struct Measurements {
+// How many lists are assignments, and how many are refused for a distance that is too short or too long.
+pub struct Tally {
     pub assignments: u64,
+    pub short: u64,
+    pub long: u64,
+}
+
+// The tally of a sheet's lists, and whether one had a wrong answer.
+pub struct Measurements {
+    pub tally: Tally,
     pub wrong: bool,
 }
 
-// A refusal's number and density 0, or 0 and the density.
+// A refusal's number and density 0, or 0 and the density; and the amount, which is 0 but with 14.
 struct Answer {
     number: u8,
     density: u64,
+    amount: i16,
+}
+
+pub fn no_lists() -> Tally {
+    Tally {
+        assignments: 0,
+        short: 0,
+        long: 0,
+    }
+}
+
+pub fn together(a: Tally, b: Tally) -> Tally {
+    Tally {
+        assignments: wrapping_add_u64(a.assignments, b.assignments),
+        short: wrapping_add_u64(a.short, b.short),
+        long: wrapping_add_u64(a.long, b.long),
+    }
 }
 
 // How many bytes of the sheet and columns of the list a call is lent.
@@ -141,8 +165,9 @@ fn all_allowed(sheet: Sheet, list: List) -> bool {
     true
 }
 
-// The refusal by the program's own reading, in the order of the rules, and 0 where there is none.
-fn refusal(lent: Lent, sheet: Sheet, list: List) -> u8 {
+// The refusal by the program's own reading, in the order of the rules, and 0 where there is none; `amount` is that of the
+// first distance out of range.
+fn refusal(lent: Lent, sheet: Sheet, list: List, amount: i16) -> u8 {
     let columns = pins(sheet);
     if lent.size != RECORD * columns + TRAILER {
         // a trailer without its last byte is too short by itself, and has no mark behind a record
@@ -154,11 +179,7 @@ fn refusal(lent: Lent, sheet: Sheet, list: List) -> u8 {
     if !all_allowed(sheet, list) {
         return 13;
     }
-    if enumeration::distances_fit(sheet, list) {
-        0
-    } else {
-        14
-    }
+    if amount == 0 { 0 } else { 14 }
 }
 
 // What is to be answered to list k. The density of the best list is the one that the exhaustive search found.
@@ -169,27 +190,35 @@ fn expected(k: u8, lent: Lent, case: Case, list: List) -> Answer {
         return Answer {
             number: 0,
             density: best.density as u64,
+            amount: 0,
         };
     }
-    let number = refusal(lent, sheet, list);
-    if number != 0 {
-        return Answer { number, density: 0 };
-    }
+    let amount = enumeration::first_amount(sheet, list);
+    let number = refusal(lent, sheet, list, amount);
     Answer {
         number,
-        density: enumeration::density(sheet, list) as u64,
+        density: if number == 0 {
+            enumeration::density(sheet, list) as u64
+        } else {
+            0
+        },
+        amount: if number == 14 { amount } else { 0 },
     }
 }
 
 fn show(n: u64, wanted: Answer, given: Answer, list: List, columns: usize) {
     printing::number(b"sheet ", n);
     printing::columns(b" measured at", &list, columns);
-    printing::density(b": expected ", wanted.number, wanted.density);
-    printing::density(b", measure ", given.number, given.density);
+    printing::measurement(b": expected ", wanted.number, wanted.density, wanted.amount);
+    printing::measurement(b", measure ", given.number, given.density, given.amount);
     printing::text(b"\n");
 }
 
-// Measures list k: whether the list is an assignment, and whether the answer is wrong.
+fn differ(a: Answer, b: Answer) -> bool {
+    a.number != b.number || a.density != b.density || a.amount != b.amount
+}
+
+// Measures list k: its tally, and whether the answer is wrong.
 fn measure_one(k: u8, case: Case, page: &Page) -> Measurements {
     let list = list_for(k, case);
     let lent = lent_for(k, case.sheet);
@@ -199,31 +228,32 @@ fn measure_one(k: u8, case: Case, page: &Page) -> Measurements {
     let given = Answer {
         number: measured::number_of(r),
         density: measured::density_of(r) as u64,
+        amount: measured::amount_of(r),
     };
-    let wrong = wanted.number != given.number || wanted.density != given.density;
+    let wrong = differ(wanted, given);
     if wrong && case.shown {
         show(case.n, wanted, given, list, lent.columns);
     }
     Measurements {
-        assignments: (wanted.number == 0) as u64,
+        tally: Tally {
+            assignments: (wanted.number == 0) as u64,
+            short: (wanted.amount < 0) as u64,
+            long: (wanted.amount > 0) as u64,
+        },
         wrong,
     }
 }
 
 // Measures all lists of a sheet.
 pub fn measure_all(case: Case, page: &Page) -> Measurements {
-    let mut all = Measurements {
-        assignments: 0,
-        wrong: false,
-    };
+    let mut tally = no_lists();
+    let mut wrong = false;
     let mut k: u8 = 0;
     while k < LISTS {
         let one = measure_one(k, case, page);
-        all = Measurements {
-            assignments: wrapping_add_u64(all.assignments, one.assignments),
-            wrong: all.wrong || one.wrong,
-        };
+        tally = together(tally, one.tally);
+        wrong = wrong || one.wrong;
         k += 1;
     }
-    all
+    Measurements { tally, wrong }
 }

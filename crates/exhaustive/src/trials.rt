@@ -1,5 +1,6 @@
 // One sheet: the library's search against the exhaustive one, and its measurements against the program's own reading.
 use crate::measures;
+use crate::measures::Tally;
 use buffers::first_bytes;
 use buffers::first_cells;
 use drawn::draw;
@@ -12,12 +13,12 @@ use fixtures::front;
 use searched::Searched;
 ghost use Prim.Native.Nat.{_≤_};
 
-// Whether the sheet has an assignment, and more than one of the least density, how many of the measured lists are
-// assignments, and whether a call did not do what it must.
+// Whether the sheet has an assignment, and more than one of the least density, the tally of its measured lists, and
+// whether a call did not do what it must.
 pub struct Trial {
     pub found: bool,
     pub tied: bool,
-    pub assignments: u64,
+    pub tally: Tally,
     pub wrong: bool,
 }
 
@@ -208,10 +209,11 @@ pub fn try_sheet(n: u64, work: &mut [u16], shown: bool) -> Trial {
     let refusals = refusals_agree(n, shown, lent, &page, work);
     let answers = answers_agree(case, lent, &page, work);
     let measured = measures::measure_all(case, &page);
+    let tally = measured.tally;
     Trial {
         found: best.found,
         tied: best.tied,
-        assignments: measured.assignments,
+        tally,
         wrong: !refusals || !answers || measured.wrong,
     }
 }

@@ -57,8 +57,12 @@ fn measured(s: &[u8], command: Command) {
     let list = [low(n[0]), low(n[1]), low(n[2]), low(n[3])];
     let answer = measure::measure(s, &list);
     printing::columns(b"A measured at", &list, 4);
-    let density = measured::density_of(answer) as u64;
-    printing::density(b": ", measured::number_of(answer), density);
+    printing::measurement(
+        b": ",
+        measured::number_of(answer),
+        measured::density_of(answer) as u64,
+        measured::amount_of(answer),
+    );
     printing::text(b"\n");
 }
 

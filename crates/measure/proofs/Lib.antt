@@ -1,3 +1,2 @@
-pub mod Scans
 pub mod Measures
 pub mod Returned

@@ -1,16 +1,14 @@
-// The answer of a measurement, and its number and density by document 01's refusal list.
-use refusals::Refusal;
+// The answer of a measurement, with its number, density and amount by document 01's refusal list.
+use refusals::ListRefusal;
+use refusals::list_amount;
+use refusals::list_number;
 ghost use mathlib.Core.Path.{_≡_};
-ghost use Rattle.measured.specs.Numbers.{numberOf, densityOf};
+ghost use Rattle.measured.specs.Numbers.{numberOf, densityOf, amountOf};
 
-// The density of a column list, or why it has none: the sheet is refused, the list is not p+q long, a column is not allowed, or a
-// distance is out of range.
+// The density of a column list, or why it has none.
 pub enum Measured {
     Density(u32),
-    Sheet(Refusal),
-    Count,
-    Allowed,
-    Distance,
+    Refused(ListRefusal),
 }
 
 // The number of a refusal; 0 with a density.
@@ -19,10 +17,7 @@ pub fn number_of(answer: Measured) -> u8
 {
     match answer {
         Measured::Density(_) => 0,
-        Measured::Sheet(why) => refusals::number_of(why),
-        Measured::Count => 12,
-        Measured::Allowed => 13,
-        Measured::Distance => 14,
+        Measured::Refused(why) => list_number(why),
     }
 }
 
@@ -32,9 +27,16 @@ pub fn density_of(answer: Measured) -> u32
 {
     match answer {
         Measured::Density(density) => density,
-        Measured::Sheet(_) => 0,
-        Measured::Count => 0,
-        Measured::Allowed => 0,
-        Measured::Distance => 0,
+        Measured::Refused(_) => 0,
+    }
+}
+
+// The columns by which a distance is out of range; 0 with a density and with any other refusal.
+pub fn amount_of(answer: Measured) -> i16
+    ensures { λ r. ⌜ r ≡ amountOf answer ⌝ }
+{
+    match answer {
+        Measured::Density(_) => 0,
+        Measured::Refused(why) => list_amount(why),
     }
 }

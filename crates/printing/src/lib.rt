@@ -2,6 +2,7 @@
 use format::Side;
 use libc::STDOUT_FILENO;
 use refusals::Checked;
+use std::num::wrapping_add_u64;
 use terminal::Record;
 
 pub fn text(t: &[u8]) {
@@ -12,6 +13,22 @@ pub fn text(t: &[u8]) {
 pub fn number(t: &[u8], n: u64) {
     text(t);
     io::print_decimal(STDOUT_FILENO, n);
+}
+
+// A number as it is, and 0 for a negative one.
+fn at_least_zero(n: i16) -> u64 {
+    if 0 <= n { n as u64 } else { 0 }
+}
+
+// A text and the signed number behind it.
+pub fn signed(t: &[u8], n: i16) {
+    if n < 0 {
+        text(t);
+        // -n is one more than !n, which fits for every n
+        number(b"-", wrapping_add_u64(at_least_zero(!n), 1));
+    } else {
+        number(t, at_least_zero(n));
+    }
 }
 
 pub fn yes_or_no(name: &[u8], yes: bool) {
@@ -49,12 +66,20 @@ pub fn columns(t: &[u8], list: &[u8], n: usize) {
 }
 
 // A text, and a refusal's number or, where that is 0, the density.
-pub fn density(t: &[u8], refusal: u8, density: u64) {
+fn density(t: &[u8], refusal: u8, density: u64) {
     text(t);
     if refusal == 0 {
         number(b"density ", density);
     } else {
         number(b"refused ", refusal as u64);
+    }
+}
+
+// The same of a measurement, with the amount where it is not 0.
+pub fn measurement(t: &[u8], refusal: u8, found: u64, amount: i16) {
+    density(t, refusal, found);
+    if amount != 0 {
+        signed(b", amount ", amount);
     }
 }
 

@@ -1,6 +1,7 @@
-// The refusal list, as far as it is a sheet's.
+// The refusal list, as far as it is a sheet's or a column list's.
 ghost use mathlib.Core.Path.{_≡_};
 ghost use Rattle.refusals.specs.Refusals.{numberOf};
+ghost use Rattle.refusals.specs.Lists.{listNumber, listAmount};
 
 // Why a sheet is refused; `number_of` gives each its number.
 pub enum Refusal {
@@ -20,7 +21,16 @@ pub enum Checked {
     Refused(Refusal),
 }
 
-// The number of a refusal.
+// Why a column list is no assignment of a sheet: the sheet is refused, the list is not p+q long, a column is not in its terminal's set, or
+// a distance is out of range by so many columns, negative where it is too short and positive where it is too long.
+pub enum ListRefusal {
+    Sheet(Refusal),
+    Count,
+    Allowed,
+    Distance(i16),
+}
+
+// The number of a refusal of a sheet.
 pub fn number_of(why: Refusal) -> u8
     ensures { λ r. ⌜ r ≡ numberOf why ⌝ }
 {
@@ -33,5 +43,29 @@ pub fn number_of(why: Refusal) -> u8
         Refusal::Net => 6,
         Refusal::Distance => 7,
         Refusal::Beyond => 8,
+    }
+}
+
+// The number of a list's refusal.
+pub fn list_number(why: ListRefusal) -> u8
+    ensures { λ r. ⌜ r ≡ listNumber why ⌝ }
+{
+    match why {
+        ListRefusal::Sheet(refusal) => number_of(refusal),
+        ListRefusal::Count => 12,
+        ListRefusal::Allowed => 13,
+        ListRefusal::Distance(_) => 14,
+    }
+}
+
+// The columns by which a distance is out of range; 0 with any other refusal.
+pub fn list_amount(why: ListRefusal) -> i16
+    ensures { λ r. ⌜ r ≡ listAmount why ⌝ }
+{
+    match why {
+        ListRefusal::Sheet(_) => 0,
+        ListRefusal::Count => 0,
+        ListRefusal::Allowed => 0,
+        ListRefusal::Distance(amount) => amount,
     }
 }

@@ -5,7 +5,7 @@ use bits::either;
 use bits::single;
 use format::count_in;
 use format::terminal_at;
-use terminal::in_range;
+use terminal::amount;
 ghost use Prim.Native.Nat.{ℕ, _+_, _≤_, _<_};
 ghost use mathlib.Core.Path.{_≡_};
 ghost use lib.ListN.{length};
@@ -29,7 +29,7 @@ fn distances(least: u8, greatest: u8) -> u64
     let mut found: u64 = 0;
     let mut e: u8 = 0;
     while e < 64 {
-        if in_range(0, e + 1, least, greatest) {
+        if amount(0, e + 1, least, greatest) == 0 {
             found = either(found, single(e as usize));
         }
         e += 1;

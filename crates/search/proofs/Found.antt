@@ -15,11 +15,9 @@ use Rattle.channel.specs.Best.{Found, best, IsBest, Answers}
 use Rattle.channel.specs.Best.Found.{none, found}
 use Rattle.channel.proofs.Best.{best-answers}
 use Rattle.channel.proofs.Assignments.{fits-lengths}
-use Rattle.refusals.specs.declared.Refusal.{Refusal}
-use Rattle.refusals.specs.declared.Refusal.the-variants as refusal
-use Rattle.refusals.specs.Refusals as refusals
 use Rattle.refusals.specs.declared.Checked.{Checked}
 use Rattle.refusals.specs.declared.Checked.the-variants as checked
+use Rattle.refusals.proofs.Refused.{number-some}
 use Rattle.soundness.specs.Check.{checkOf}
 use Rattle.soundness.specs.Read.{read, sheetOf}
 use Rattle.soundness.specs.Read.Read.{sound}
@@ -119,19 +117,9 @@ module _ (b : List ℕ) (k m d : ℕ) where
   finds = by-check (checkOf b) refl
 
 -- an answer with the number 0 is a density
-sheet-number : (why : Refusal) → refusals.numberOf why ≡ 0 → ⊥
-sheet-number refusal.Short e = omega arith
-sheet-number refusal.Mark e = omega arith
-sheet-number refusal.Length e = omega arith
-sheet-number refusal.Count e = omega arith
-sheet-number refusal.Layout e = omega arith
-sheet-number refusal.Net e = omega arith
-sheet-number refusal.Distance e = omega arith
-sheet-number refusal.Beyond e = omega arith
-
 pub zero-found : (r : Searched) → numberOf r ≡ 0 → r ≡ searched.Found (densityOf r)
 zero-found (searched.Found d) e = refl
-zero-found (searched.Sheet why) e = absurd (sheet-number why e)
+zero-found (searched.Sheet why) e = absurd (number-some why e)
 zero-found searched.Columns e = absurd (omega arith)
 zero-found searched.Cells e = absurd (omega arith)
 zero-found searched.NoAssignment e = absurd (omega arith)

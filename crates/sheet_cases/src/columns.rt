@@ -1,6 +1,7 @@
 // What a terminal's set and distance pair say of columns.
 use crate::show::hex;
 use printing::number;
+use printing::signed;
 use printing::text;
 use printing::yes_or_no;
 
@@ -9,13 +10,14 @@ const COLUMNS: [u8; 8] = [0, 1, 2, 63, 64, 65, 66, 255];
 
 const LENGTHS: [usize; 8] = [0, 1, 2, 62, 63, 64, 65, 18446744073709551615];
 
-// Whether a column keeps its distance from the one before.
+// The amount of the distance from the column before.
 pub fn range(before: u8, column: u8, least: u8, greatest: u8) {
     number(b"from ", before as u64);
     number(b" to ", column as u64);
     number(b" within ", least as u64);
     number(b" to ", greatest as u64);
-    yes_or_no(b": ", terminal::in_range(before, column, least, greatest));
+    signed(b": ", terminal::amount(before, column, least, greatest));
+    text(b"\n");
 }
 
 pub fn allow_each(set: u64) {

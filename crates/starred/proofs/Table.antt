@@ -2,6 +2,7 @@
 -- Assumes nothing.
 use mathlib.Core.Path.{refl}
 use Rattle.channel.specs.Assignment.{fits, topColumns, bottomColumns, assignment?}
+use Rattle.channel.specs.Distance.{amount}
 use Rattle.channel.specs.Density.{crosses, netsOf, columnDensity, density}
 use Rattle.channel.specs.Word.{word, columnsOf, words}
 use Rattle.channel.specs.Best.{bestOf, best}
@@ -13,7 +14,9 @@ use Rattle.form.specs.Form.{laidOut, trailerCheck, formOf}
 use Rattle.soundness.specs.Check.{terminalCheck, checkOf}
 use Rattle.soundness.specs.Read.{sheetOf, read}
 use Rattle.sheet.specs.Parts.{shapeOf}
-use Rattle.measure.specs.Answer.{allAllowed, distancesKept, listMeasured, sheetMeasured, measuredOf}
+use Rattle.sheet.specs.Parts.{layoutOf, openedOf}
+use Rattle.list.specs.Answer.{allAllowed, firstAmount, columnsListed, sheetListed, listedOf}
+use Rattle.measure.specs.Answer.{measuredOf}
 use Rattle.search.specs.Answer.{answerIn, searchedOf, columnsAfter}
 use Rattle.starred.specs.Table.{Starred}
 
@@ -21,7 +24,7 @@ pub starred : Starred
 unfolding fits topColumns bottomColumns assignment? crosses netsOf columnDensity density word columnsOf words bestOf best
     little terminalAt terminalsFrom trailerOf hasMark bytesOf terminalsIn laidOut trailerCheck formOf terminalCheck checkOf
     sheetOf read shapeOf
-    allAllowed distancesKept listMeasured sheetMeasured measuredOf answerIn searchedOf columnsAfter
+    layoutOf openedOf amount allAllowed firstAmount columnsListed sheetListed listedOf measuredOf answerIn searchedOf columnsAfter
 starred =
     record {
       A-length = refl;
@@ -41,8 +44,8 @@ starred =
       range-2 = (refl, refl, refl);
       range-3 = (refl, refl, refl);
       three-pins = (refl, refl, refl);
-      measured-2 = (refl, refl);
-      measured-1 = (refl, refl);
-      measured-14 = (refl, refl);
-      measured-13 = (refl, refl);
+      measured-2 = (refl, refl, refl);
+      measured-1 = (refl, refl, refl);
+      measured-14 = (refl, refl, refl);
+      measured-13 = (refl, refl, refl);
     }

@@ -6,6 +6,7 @@ use mathlib.Core.Path.{_≡_}
 use mathlib.Core.List.{List, [], _∷_, map}
 use mathlib.Core.Bool.{true}
 use lib.ListN.{length, drop, replicate}
+use lib.IntN.{ℤ, pos, negℤ}
 use Rattle.channel.specs.Assignment.{assignment?}
 use Rattle.channel.specs.Density.{density}
 use Rattle.channel.specs.Word.{rank, word}
@@ -38,9 +39,12 @@ Gives b bytes cells d columns = Searched b bytes cells 0 d columns
 abbrev pub Refuses : List ℕ → ℕ → ℕ → ℕ → Type 0
 Refuses b bytes cells n = Searched b bytes cells n 0 (unwritten bytes)
 
--- a measurement: its number, 0 for no refusal, and its density
-abbrev pub Measures : List ℕ → List ℕ → ℕ → ℕ → Type 0
-Measures b cs n d = (measured.numberOf (measuredOf b cs) ≡ n) × (measured.densityOf (measuredOf b cs) ≡ d)
+-- a measurement: its number, 0 for no refusal, its density, and its amount
+abbrev pub Measures : List ℕ → List ℕ → ℕ → ℕ → ℤ → Type 0
+Measures b cs n d a =
+    (measured.numberOf (measuredOf b cs) ≡ n)
+    × (measured.densityOf (measuredOf b cs) ≡ d)
+    × (measured.amountOf (measuredOf b cs) ≡ a)
 
 -- the word of a column list, by the numbers of its letters
 abbrev pub ranks : List ℕ → List ℕ → List ℕ
@@ -84,11 +88,12 @@ pub record Starred : Type 0 where
   pub range-3 : Gives (twoTop 4 0b0001 0b1010 3 3) 2 75 0 (1 ∷ 4 ∷ [])
   -- "Top nets 4, 4, bottom 4, L=2, full sets, range 1 to 255: density 1, columns 1, 2, 1"
   pub three-pins : Gives threePins 3 54 1 (1 ∷ 2 ∷ 1 ∷ [])
-  -- "Measuring on A: 1, 2, 1, 2 gives 2; 1, 2, 2, 3 gives 1; 2, 2, 1, 3 gives 14; 2, 2, 0, 1 gives 13"
-  pub measured-2 : Measures (A 3) (1 ∷ 2 ∷ 1 ∷ 2 ∷ []) 0 2
-  pub measured-1 : Measures (A 3) (1 ∷ 2 ∷ 2 ∷ 3 ∷ []) 0 1
-  pub measured-14 : Measures (A 3) (2 ∷ 2 ∷ 1 ∷ 3 ∷ []) 14 0
-  pub measured-13 : Measures (A 3) (2 ∷ 2 ∷ 0 ∷ 1 ∷ []) 13 0
+  -- "Measuring on A: 1, 2, 1, 2 gives 2; 1, 2, 2, 3 gives 1; 2, 2, 1, 3 gives 14; 2, 2, 0, 1 gives 13".
+  -- 14 comes with the amount (document 02, T-01): columns 2 and 2 are 0 apart, which is 1 less than the least distance
+  pub measured-2 : Measures (A 3) (1 ∷ 2 ∷ 1 ∷ 2 ∷ []) 0 2 (pos 0)
+  pub measured-1 : Measures (A 3) (1 ∷ 2 ∷ 2 ∷ 3 ∷ []) 0 1 (pos 0)
+  pub measured-14 : Measures (A 3) (2 ∷ 2 ∷ 1 ∷ 3 ∷ []) 14 0 (negℤ (pos 1))
+  pub measured-13 : Measures (A 3) (2 ∷ 2 ∷ 0 ∷ 1 ∷ []) 13 0 (pos 0)
 
 -- Two of these sheets that demand 3 speaks of
 pub record Paired : Type 0 where

@@ -3,7 +3,7 @@
 mod columns;
 
 pub use columns::allows;
-pub use columns::in_range;
+pub use columns::amount;
 pub use columns::names_above;
 
 // The fields of one terminal's record.

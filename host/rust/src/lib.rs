@@ -26,7 +26,9 @@
 //! assert_eq!(columns, [2, 3, 1, 2]);
 //!
 //! assert_eq!(cazdrob::measure(&sheet, &[1, 2, 1, 2]), Ok(2));
-//! assert_eq!(cazdrob::measure(&sheet, &[2, 2, 1, 3]), Err(cazdrob::Refusal::OutOfRange));
+//! // T 2 stands in the column of T 1 and should be one to the right of it at the least
+//! assert_eq!(cazdrob::measure(&sheet, &[2, 2, 1, 3]), Err(cazdrob::Refusal::OutOfRange { amount: -1 }));
+//! assert_eq!(cazdrob::distance(2, 2, 1, 255), -1);
 //! # Ok::<(), cazdrob::Refusal>(())
 //! ```
 #![warn(missing_docs)]
@@ -39,7 +41,15 @@ mod sys {
     extern "C" {
         pub fn cazdrob_check(sheet: *const u8, sheet_len: usize) -> u32;
         pub fn cazdrob_cells(sheet: *const u8, sheet_len: usize) -> usize;
-        pub fn cazdrob_measure(sheet: *const u8, sheet_len: usize, columns: *const u8, columns_len: usize, density: *mut u32) -> u32;
+        pub fn cazdrob_distance(before: u8, column: u8, least: u8, greatest: u8) -> i32;
+        pub fn cazdrob_measure(
+            sheet: *const u8,
+            sheet_len: usize,
+            columns: *const u8,
+            columns_len: usize,
+            density: *mut u32,
+            amount: *mut i32,
+        ) -> u32;
         pub fn cazdrob_search(
             sheet: *const u8,
             sheet_len: usize,
@@ -58,7 +68,7 @@ mod sys {
 /// Whether the sheet is sound: `Ok`, or one of the refusals 1 to 8.
 pub fn check(sheet: &[u8]) -> Result<(), Refusal> {
     // SAFETY: the pointer and the length are a slice's.
-    answer(unsafe { sys::cazdrob_check(sheet.as_ptr(), sheet.len()) })
+    answer(unsafe { sys::cazdrob_check(sheet.as_ptr(), sheet.len()) }, 0)
 }
 
 /// The work cells that a search of the sheet needs, (p+1)(q+1)(L+1)²; 0 for a refused sheet.
@@ -67,13 +77,23 @@ pub fn cells(sheet: &[u8]) -> usize {
     unsafe { sys::cazdrob_cells(sheet.as_ptr(), sheet.len()) }
 }
 
+/// By how many columns a terminal's distance to the one before it is out of range, -510 to 255: `column - before` less the bound that it
+/// breaks.
+///
+/// Negative, it is so many columns too close, which is tried first; positive, so many too far apart; 0 is in range. The search and the
+/// measurement test every distance so.
+pub fn distance(before: u8, column: u8, least: u8, greatest: u8) -> i32 {
+    // SAFETY: nothing is lent.
+    unsafe { sys::cazdrob_distance(before, column, least, greatest) }
+}
+
 /// The density of a column list: the columns of the top terminals in order, then those of the bottom terminals. Refused with 1 to 8,
-/// 12, 13 or 14.
+/// 12, 13 or 14, which carries the [`distance`] of the first pair that is out of range: the top pairs in order, then the bottom pairs.
 pub fn measure(sheet: &[u8], columns: &[u8]) -> Result<u32, Refusal> {
-    let mut density = 0;
-    // SAFETY: the pointers and lengths are those of slices, and `density` is borrowed by nothing else.
-    let number = unsafe { sys::cazdrob_measure(sheet.as_ptr(), sheet.len(), columns.as_ptr(), columns.len(), &mut density) };
-    answer(number).map(|()| density)
+    let (mut density, mut amount) = (0, 0);
+    // SAFETY: the pointers and lengths are those of slices; `density` and `amount` are borrowed by nothing else.
+    let number = unsafe { sys::cazdrob_measure(sheet.as_ptr(), sheet.len(), columns.as_ptr(), columns.len(), &mut density, &mut amount) };
+    answer(number, amount).map(|()| density)
 }
 
 /// Finds the best assignment on lent buffers and gives its density. Refused with 1 to 11.
@@ -87,7 +107,7 @@ pub fn search(sheet: &[u8], columns: &mut [u8], work: &mut [u16]) -> Result<u32,
     let number = unsafe {
         sys::cazdrob_search(sheet.as_ptr(), sheet.len(), columns.as_mut_ptr(), columns.len(), work.as_mut_ptr(), work.len(), &mut density)
     };
-    answer(number).map(|()| density)
+    answer(number, 0).map(|()| density)
 }
 
 /// An assignment and its density.
@@ -132,12 +152,11 @@ impl Searcher {
     }
 }
 
-/// Why a call was refused; the value is the number of the refusal.
+/// Why a call was refused.
 #[derive(Debug, Clone, Copy, PartialEq, Eq)]
-#[repr(u32)]
 pub enum Refusal {
     /// 1: the sheet is shorter than 12 bytes.
-    Short = 1,
+    Short,
     /// 2: its last two bytes are not the mark.
     Mark,
     /// 3: L is 0 or above 64.
@@ -163,13 +182,31 @@ pub enum Refusal {
     /// 13: a listed column is not in its terminal's set.
     NotAllowed,
     /// 14: a distance is out of range.
-    OutOfRange,
+    OutOfRange {
+        /// The [`distance`] of the first such pair: negative, so many columns too close; positive, so many too far apart.
+        amount: i32,
+    },
 }
 
 impl Refusal {
     /// The number of the refusal, 1 to 14.
     pub fn number(self) -> u32 {
-        self as u32
+        match self {
+            Refusal::Short => 1,
+            Refusal::Mark => 2,
+            Refusal::Length => 3,
+            Refusal::Count => 4,
+            Refusal::Layout => 5,
+            Refusal::Net => 6,
+            Refusal::Distance => 7,
+            Refusal::Beyond => 8,
+            Refusal::Columns => 9,
+            Refusal::Cells => 10,
+            Refusal::NoAssignment => 11,
+            Refusal::ListLength => 12,
+            Refusal::NotAllowed => 13,
+            Refusal::OutOfRange { .. } => 14,
+        }
     }
 }
 
@@ -189,16 +226,23 @@ impl fmt::Display for Refusal {
             Refusal::NoAssignment => "no assignment exists",
             Refusal::ListLength => "the list to measure is not p+q long",
             Refusal::NotAllowed => "a listed column is not in its terminal's set",
-            Refusal::OutOfRange => "a distance is out of range",
+            Refusal::OutOfRange { .. } => "a distance is out of range",
         };
-        write!(f, "refused {}: {why}", self.number())
+        write!(f, "refused {}: {why}", self.number())?;
+        if let Refusal::OutOfRange { amount } = self {
+            let count = amount.unsigned_abs();
+            let columns = if count == 1 { "column" } else { "columns" };
+            let wrong = if *amount < 0 { "too close" } else { "too far apart" };
+            write!(f, ", {count} {columns} {wrong}")?;
+        }
+        Ok(())
     }
 }
 
 impl Error for Refusal {}
 
-/// A returned number as a result.
-fn answer(number: u32) -> Result<(), Refusal> {
+/// A returned number as a result, with the amount that came beside it: 0 from a call that has none, as none of those returns 14.
+fn answer(number: u32, amount: i32) -> Result<(), Refusal> {
     Err(match number {
         0 => return Ok(()),
         1 => Refusal::Short,
@@ -214,7 +258,7 @@ fn answer(number: u32) -> Result<(), Refusal> {
         11 => Refusal::NoAssignment,
         12 => Refusal::ListLength,
         13 => Refusal::NotAllowed,
-        14 => Refusal::OutOfRange,
+        14 => Refusal::OutOfRange { amount },
         _ => unreachable!("the library returns 0 to 14, not {number}"),
     })
 }

@@ -1,39 +1,31 @@
--- `measure::measure` meets its contract: what the sheet layer refuses, then 12, then what the list is answered.
+-- `measure::measure` meets its contract: what the list's check refuses, then the density.
 -- Assumes nothing.
 use mathlib.Core.Path.{_≡_, sym, _∙_}
-use native.Mathlib.Omega.{arith}
-use Rattle.sheet.specs.declared.Opened.the-variants.{Sound}
-use Rattle.sheet.specs.Parts.{openedOf}
 use borrow.Author.Needs.{needs}
+use Rattle.list.specs.declared.Listed.the-variants.{Assignment}
+use Rattle.list.specs.Answer.{listedOf}
 use Rattle.measure.proofs.measure.Statement.{statement}
-use Rattle.measure.proofs.Measures.{sheet-refused, count-refused, laid, list-measured}
+use Rattle.measure.proofs.Measures.{list-refused, laid, density-counted}
 use Rattle.measure.proofs.measure.Tie as tie
 
--- the sheet opened, with its layout
-opening : (c : tie.After-opened2) → openedOf (c .before .before .before .before .before .args .s .now) ≡ Sound (c .opened2 .given .0 .0)
-opening c = sym (c .before .before .open .ensures) ∙ c .opened2 .given .1
+-- the list is an assignment, with its sheet's layout
+assigned : (c : tie.After-listed2)
+    → let a = c .before .before .before .before .before .args in
+    listedOf (a .s .now) (a .columns .now) ≡ Assignment (c .listed2 .given .0 .0)
+assigned c = sym (c .before .before .check .ensures) ∙ c .listed2 .given .1
+
+list-density-requires : tie.Need-list-density-requires
+list-density-requires c κs =
+    laid _ _ _ (assigned (c .before .before .before .before)) _ _ (c .before .part-in .ensures .bytes) (c .part-in2 .ensures .bytes)
 
 returns : tie.Need-returns
-returns c =
-    let at-opened = c .before .before .before .before in
-    count-refused _ _ _ (opening at-opened) (omega (arith, c .if1 .taken))
-
-measure-list-requires : tie.Need-measure-list-requires
-measure-list-requires c κs =
-    let at-if = c .before .before in
-    let at-opened = at-if .before .before .before .before in
-    laid _ _ _ (opening at-opened) (at-if .if1 .left) _ _ (c .before .part-in .ensures .bytes) (c .part-in2 .ensures .bytes)
+returns c = list-refused _ _ _ (sym (c .before .before .before .check .ensures) ∙ c .before .listed .given .1)
 
 returns-2 : tie.Need-returns-2
-returns-2 c = sheet-refused _ _ _ (sym (c .before .before .before .open .ensures) ∙ c .before .opened .given .1)
-
-returns-3 : tie.Need-returns-3
-returns-3 c =
+returns-2 c =
     let at-part = c .before .before in
-    let at-if = at-part .before in
-    let at-opened = at-if .before .before .before .before in
-    list-measured _ _ _ (opening at-opened) (at-if .if1 .left) _ _ (at-part .part-in .ensures .bytes)
-    (c .before .part-in2 .ensures .bytes) _ (c .measure-list .ensures)
+    density-counted _ _ _ (assigned (at-part .before .before .before)) _ _ (at-part .part-in .ensures .bytes)
+    (c .before .part-in2 .ensures .bytes) _ (c .list-density .ensures)
 
 pub measure-spec : {M : Type 1} → statement M
 measure-spec =
@@ -42,9 +34,8 @@ measure-spec =
     (λ c κs. search needs)
     (λ c. search needs)
     (λ c. search needs)
+    (λ c κs. search needs)
+    (λ c κs. search needs)
+    list-density-requires
     returns
-    (λ c κs. search needs)
-    (λ c κs. search needs)
-    measure-list-requires
-    returns-2
-    returns-3)
+    returns-2)

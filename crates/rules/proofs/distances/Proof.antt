@@ -2,13 +2,14 @@
 -- The measure is how many are left.
 -- Assumes nothing.
 use Prim.Native.Nat.{ℕ, _≤_, _+_, _-_}
-use mathlib.Core.Path.{_∙_, sym, ap}
+use mathlib.Core.Path.{_∙_, ap}
 use mathlib.Core.Bool.{Bool}
 use mathlib.Core.Logic.{⊎-elim}
 use native.Mathlib.Omega.{arith}
 use borrow.Author.Needs.{needs}
 use Rattle.channel.specs.Assignment.{inRange}
 use Rattle.bits.specs.Bits.{bitOf}
+use Rattle.terminal.proofs.Laws.{zero-within, other-beyond}
 use Rattle.rules.proofs.Terminals.{Collected, collected-none, collected-taken, collected-left, collected-all}
 use Rattle.rules.proofs.distances.Statement.{statement}
 use Rattle.rules.proofs.distances.Tie as tie
@@ -26,14 +27,18 @@ loop-again : tie.Need-loop-again Inv-loop μ-loop
 loop-again c =
     let l = c .before .before .before .loop in
     let a = c .before .before .before .before .args in
+    let asked = c .before .amount in
     let within : ℕ → Bool = λ k. inRange (a .least) (a .greatest) 0 (k + 1) in (
       omega arith,
       ⊎-elim
           (λ w.
           collected-taken within (l .e) (l .found) (w .1 .result) (c .if1 .found) (l .inv .1)
-          (sym (c .before .in-range .ensures) ∙ w .0 .taken) (w .1 .ensures)
+          (zero-within (a .least) (a .greatest) 0 (l .e + 1) (asked .ok) (asked .ensures) (w .0 .taken)) (w .1 .ensures)
           (λ k. ap (λ (v : ℕ). bitOf v k) (w .3) ∙ w .2 .ensures k))
-          (λ w. rw (w .1) (collected-left within (l .e) (l .found) (l .inv .1) (sym (c .before .in-range .ensures) ∙ w .0 .left)))
+          (λ w.
+          rw (w .1)
+          (collected-left within (l .e) (l .found) (l .inv .1)
+          (other-beyond (a .least) (a .greatest) 0 (l .e + 1) (asked .ok) (asked .ensures) (w .0 .left))))
           (c .if1 .came),
     )
 

@@ -1,6 +1,7 @@
 //! The sheets with known results, asked of the library and of the reference.
 use crate::draw::{all_columns, sheet_of};
-use crate::reference::{read, Channel, Terminal};
+use crate::lent::refused;
+use crate::reference::{amount, read, Channel, Refused, Terminal};
 use cazdrob::{Assignment, Searcher};
 
 /// A side: its nets, with these sets and, but for the first, this range.
@@ -71,14 +72,56 @@ fn searches() {
     found(&free(2, &[4, 4], &[4]), 1, &[1, 2, 1]);
 }
 
+fn measured(channel: &Channel, list: &[u8], wanted: Result<u32, Refused>) {
+    assert_eq!(channel.measure(list), wanted);
+    for bottom_first in [false, true] {
+        assert_eq!(cazdrob::measure(&sheet_of(channel, bottom_first), list).map_err(refused), wanted);
+    }
+}
+
+fn out_of_range(amount: i32) -> Result<u32, Refused> {
+    Err(Refused { number: 14, amount })
+}
+
 #[test]
 fn measurements_on_sheet_a() {
-    let sheet = sheet_of(&sheet_a(), false);
-    let rows = [([1, 2, 1, 2], Ok(2)), ([1, 2, 2, 3], Ok(1)), ([2, 2, 1, 3], Err(14)), ([2, 2, 0, 1], Err(13))];
-    for (list, wanted) in rows {
-        assert_eq!(cazdrob::measure(&sheet, &list).map_err(|r| r.number()), wanted);
-        assert_eq!(sheet_a().measure(&list), wanted);
+    measured(&sheet_a(), &[1, 2, 1, 2], Ok(2));
+    measured(&sheet_a(), &[1, 2, 2, 3], Ok(1));
+    measured(&sheet_a(), &[2, 2, 1, 3], out_of_range(-1));
+    measured(&sheet_a(), &[2, 2, 0, 1], Err(13.into()));
+    measured(&sheet_a(), &[2, 2, 0], Err(12.into()));
+}
+
+#[test]
+fn distances() {
+    let rows = [((5, 2, 2, 255), -5), ((1, 4, 3, 3), 0), ((255, 0, 255, 0), -510), ((0, 255, 0, 0), 255), ((0, 5, 9, 2), -4)];
+    for ((before, column, least, greatest), wanted) in rows {
+        assert_eq!(amount(before, column, least, greatest), wanted);
+        assert_eq!(cazdrob::distance(before, column, least, greatest), wanted);
     }
+}
+
+/// The first bad pair by place, top before bottom, and the least and the greatest amount that a sheet can have.
+#[test]
+fn amounts() {
+    let three = |least, greatest| side(&[1, 2, 3], &[all_columns(64); 3], least, greatest);
+    let channel = Channel { length: 64, top: three(2, 4), bottom: three(3, 3) };
+    measured(&channel, &[1, 3, 7, 1, 4, 7], Ok(1));
+    // each bad pair alone
+    measured(&channel, &[5, 2, 4, 1, 4, 7], out_of_range(-5));
+    measured(&channel, &[1, 3, 8, 1, 4, 7], out_of_range(1));
+    measured(&channel, &[1, 3, 7, 1, 5, 8], out_of_range(1));
+    measured(&channel, &[1, 3, 7, 1, 4, 5], out_of_range(-2));
+    // two on a side, and on both sides
+    measured(&channel, &[1, 8, 7, 1, 4, 7], out_of_range(3));
+    measured(&channel, &[1, 3, 7, 4, 1, 9], out_of_range(-6));
+    measured(&channel, &[1, 3, 4, 1, 9, 1], out_of_range(-1));
+    // a column out of its set, on whichever side, is refused first
+    measured(&channel, &[5, 2, 4, 1, 4, 65], Err(13.into()));
+
+    let far = |distance| Channel { length: 64, top: vec![], bottom: side(&[1, 2], &[all_columns(64); 2], distance, distance) };
+    measured(&far(255), &[64, 1], out_of_range(-318));
+    measured(&far(1), &[1, 64], out_of_range(62));
 }
 
 #[test]

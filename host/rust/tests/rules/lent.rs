@@ -1,13 +1,20 @@
 //! Calls of the C functions on buffers out of the middle of longer ones full of garbage, each held to what the reference says, to the
 //! last byte and cell of the longer buffers.
 use crate::draw::Draw;
-use crate::reference::{read, Channel};
-use cazdrob::Searcher;
+use crate::reference::{read, Channel, Refused};
+use cazdrob::{Refusal, Searcher};
 
 extern "C" {
     fn cazdrob_check(sheet: *const u8, sheet_len: usize) -> u32;
     fn cazdrob_cells(sheet: *const u8, sheet_len: usize) -> usize;
-    fn cazdrob_measure(sheet: *const u8, sheet_len: usize, columns: *const u8, columns_len: usize, density: *mut u32) -> u32;
+    fn cazdrob_measure(
+        sheet: *const u8,
+        sheet_len: usize,
+        columns: *const u8,
+        columns_len: usize,
+        density: *mut u32,
+        amount: *mut i32,
+    ) -> u32;
     fn cazdrob_search(
         sheet: *const u8,
         sheet_len: usize,
@@ -60,6 +67,7 @@ pub struct Seen {
     pub check: [u32; 15],
     pub measure: [u32; 15],
     pub search: [u32; 15],
+    pub bad: Bad,
 }
 
 impl Seen {
@@ -68,7 +76,45 @@ impl Seen {
         println!("  check   {:?}", self.check);
         println!("  measure {:?}", self.measure);
         println!("  search  {:?}", self.search);
+        if self.measure[14] > 0 {
+            println!("  of 14   {:?}", self.bad);
+        }
     }
+}
+
+/// How often the bad pairs behind 14 lay so.
+#[derive(Debug, Default)]
+pub struct Bad {
+    pub top_alone: u32,
+    pub bottom_alone: u32,
+    pub both: u32,
+    /// The bottom's first bad pair has another amount than the top's.
+    pub sides_differ: u32,
+    /// A later bad pair of the same side has another amount than the first.
+    pub later_differs: u32,
+    pub too_close: u32,
+    pub too_far: u32,
+}
+
+impl Bad {
+    fn count(&mut self, amounts: [Vec<i32>; 2]) {
+        let [top, bottom] = amounts.map(|side| side.into_iter().filter(|amount| *amount != 0).collect::<Vec<i32>>());
+        self.top_alone += u32::from(bottom.is_empty());
+        self.bottom_alone += u32::from(top.is_empty());
+        let both = !top.is_empty() && !bottom.is_empty();
+        self.both += u32::from(both);
+        self.sides_differ += u32::from(both && top[0] != bottom[0]);
+        let side = if top.is_empty() { bottom } else { top };
+        self.later_differs += u32::from(side.iter().any(|amount| *amount != side[0]));
+        self.too_close += u32::from(side[0] < 0);
+        self.too_far += u32::from(side[0] > 0);
+    }
+}
+
+/// What the wrapper says of a refused measurement, as the reference says it.
+pub fn refused(refusal: Refusal) -> Refused {
+    let amount = if let Refusal::OutOfRange { amount } = refusal { amount } else { 0 };
+    Refused { number: refusal.number(), amount }
 }
 
 /// Holds the sheet and its answers for the calls to come.
@@ -133,22 +179,32 @@ impl Held {
 
     /// Holds the measurement of a list.
     pub fn measure(&self, draw: &mut Draw, list: &[u8], seen: &mut Seen) {
-        let wanted = self.read.as_ref().map_err(|number| *number).and_then(|channel| channel.measure(list));
+        let wanted = self.read.as_ref().map_err(|number| Refused::from(*number)).and_then(|channel| channel.measure(list));
+        let (wanted_density, Refused { number: wanted_number, amount: wanted_amount }) = match wanted {
+            Ok(density) => (density, Refused::from(0)),
+            Err(refused) => (0, refused),
+        };
         let mut sheet = Lent::around(draw, &self.sheet, |w| w as u8);
         let mut columns = Lent::around(draw, list, |w| w as u8);
         let mut density = Lent::garbage(draw, 1, |w| w as u32);
-        let before = (sheet.clone(), columns.clone(), density.clone());
+        let mut amount = Lent::garbage(draw, 1, |w| w as i32);
+        let before = (sheet.clone(), columns.clone(), density.clone(), amount.clone());
         let number = {
-            let (sheet, columns, density) = (sheet.lend(), columns.lend(), density.lend());
-            unsafe { cazdrob_measure(sheet.as_ptr(), sheet.len(), columns.as_ptr(), columns.len(), density.as_mut_ptr()) }
+            let (sheet, columns, density, amount) = (sheet.lend(), columns.lend(), density.lend(), amount.lend());
+            let (density, amount) = (density.as_mut_ptr(), amount.as_mut_ptr());
+            unsafe { cazdrob_measure(sheet.as_ptr(), sheet.len(), columns.as_ptr(), columns.len(), density, amount) }
         };
-        let got = if number == 0 { Ok(density.lend()[0]) } else { Err(number) };
-        assert_eq!(got, wanted, "measurement of {list:?} on {:?}", self.sheet);
-        assert_eq!(cazdrob::measure(sheet.lend(), columns.lend()).map_err(|r| r.number()), wanted);
+        let got = (number, density.lend()[0], amount.lend()[0]);
+        assert_eq!(got, (wanted_number, wanted_density, wanted_amount), "measurement of {list:?} on {:?}", self.sheet);
+        assert_eq!(cazdrob::measure(sheet.lend(), columns.lend()).map_err(refused), wanted);
         sheet.hold(&before.0, [].into_iter(), "the sheet");
         columns.hold(&before.1, [].into_iter(), "the list");
-        density.hold(&before.2, [wanted.unwrap_or(0)].into_iter(), "the density");
+        density.hold(&before.2, [wanted_density].into_iter(), "the density");
+        amount.hold(&before.3, [wanted_amount].into_iter(), "the amount");
         seen.measure[number as usize] += 1;
+        if let (14, Ok(channel)) = (number, &self.read) {
+            seen.bad.count(channel.amounts(list));
+        }
     }
 
     /// Holds a search on buffers of these lengths.

@@ -1,6 +1,14 @@
 //! Measured column lists: assignments, lists that are nearly one, any bytes, wrong lengths.
 use crate::draw::{channel_up_to, sheet_of, Draw};
-use crate::lent::{Held, Seen};
+use crate::lent::{Bad, Held, Seen};
+use crate::reference::Channel;
+
+/// A column of the terminal's set, where it has one.
+fn allowed(draw: &mut Draw, channel: &Channel, at: usize) -> Option<u8> {
+    let terminal = channel.top.iter().chain(&channel.bottom).nth(at)?;
+    let columns: Vec<u8> = (1..=64).filter(|c| terminal.set & (1 << (c - 1)) != 0).collect();
+    (!columns.is_empty()).then(|| draw.of(&columns))
+}
 
 fn measured(test: &str, seed: u64, sheets: usize, lists: usize, length: usize, p: usize, q: usize) -> Seen {
     let mut draw = Draw::new(seed);
@@ -14,7 +22,7 @@ fn measured(test: &str, seed: u64, sheets: usize, lists: usize, length: usize, p
         held.measure(&mut draw, &near, &mut seen);
         for _ in 0..lists {
             let mut list = near.clone();
-            match draw.between(0, 6) {
+            match draw.between(0, 7) {
                 // one or two columns moved a little
                 0..=2 => {
                     for _ in 0..draw.between(1, 2).min(terminals) {
@@ -25,18 +33,15 @@ fn measured(test: &str, seed: u64, sheets: usize, lists: usize, length: usize, p
                 }
                 // columns that no sheet has
                 3 if terminals > 0 => list[draw.between(0, terminals - 1)] = draw.of(&[0, 64, 65, 66, 128, 129, 192, 255]),
-                // a column of the set of its terminal, wherever that leaves the distances
+                // a column of the set of its terminal, wherever that leaves the distances: of a few terminals, or of each
                 4 if terminals > 0 => {
                     for _ in 0..draw.between(1, 3) {
                         let at = draw.between(0, terminals - 1);
-                        let terminal = channel.top.iter().chain(&channel.bottom).nth(at).unwrap();
-                        let columns: Vec<u8> = (1..=64).filter(|c| terminal.set & (1 << (c - 1)) != 0).collect();
-                        if !columns.is_empty() {
-                            list[at] = draw.of(&columns);
-                        }
+                        list[at] = allowed(&mut draw, &channel, at).unwrap_or(list[at]);
                     }
                 }
-                5 => list = (0..terminals).map(|_| draw.between(0, channel.length + 1) as u8).collect(),
+                5 => list = (0..terminals).map(|at| allowed(&mut draw, &channel, at).unwrap_or(list[at])).collect(),
+                6 => list = (0..terminals).map(|_| draw.between(0, channel.length + 1) as u8).collect(),
                 // a list of another length
                 _ => {
                     list = (0..draw.between(0, terminals + 3)).map(|_| draw.between(1, channel.length) as u8).collect();
@@ -49,12 +54,19 @@ fn measured(test: &str, seed: u64, sheets: usize, lists: usize, length: usize, p
     seen
 }
 
+/// Whether the bad pairs behind 14 lay in every way, in each more often than this.
+fn in_every_way(bad: &Bad, times: u32) -> bool {
+    let Bad { top_alone, bottom_alone, both, sides_differ, later_differs, too_close, too_far } = *bad;
+    [top_alone, bottom_alone, both, sides_differ, later_differs, too_close, too_far].into_iter().all(|seen| seen > times)
+}
+
 #[test]
 fn lists_of_small_sheets() {
     let seen = measured("lists of small sheets", 31, 10_000, 20, 8, 5, 5);
     for number in [0, 12, 13, 14] {
         assert!(seen.measure[number] > 10_000, "{number}");
     }
+    assert!(in_every_way(&seen.bad, 3_000));
 }
 
 #[test]
@@ -63,6 +75,7 @@ fn lists_of_large_sheets() {
     for number in [0, 12, 13, 14] {
         assert!(seen.measure[number] > 2_000, "{number}");
     }
+    assert!(in_every_way(&seen.bad, 2_000));
 }
 
 /// Every list of a small sheet, also with columns 0 and L+1.
@@ -86,6 +99,7 @@ fn every_list_of_a_small_sheet() {
     }
     seen.print("every list of a small sheet");
     assert!(seen.measure[0] > 100 && seen.measure[13] > 1_000 && seen.measure[14] > 100);
+    assert!(seen.bad.top_alone > 50 && seen.bad.bottom_alone > 50 && seen.bad.sides_differ > 50);
 }
 
 /// A list of every length, and every byte as a column.
@@ -110,4 +124,5 @@ fn every_length_and_every_byte() {
     }
     seen.print("every length and every byte");
     assert!(seen.measure[12] > 800 && seen.measure[13] > 20_000 && seen.measure[14] > 500 && seen.measure[0] > 300);
+    assert!(in_every_way(&seen.bad, 100));
 }

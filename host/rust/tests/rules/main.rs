@@ -2,6 +2,7 @@
 //! small and large, with every buffer lent out of the middle of a longer one full of garbage. The draws are fixed by their seeds.
 mod buffers;
 mod damaged;
+mod distances;
 mod draw;
 mod known;
 mod lent;

@@ -16,6 +16,21 @@ pub struct Channel {
     pub bottom: Vec<Terminal>,
 }
 
+/// The answer of a refused measurement.
+#[derive(Debug, Clone, Copy, PartialEq, Eq)]
+pub struct Refused {
+    pub number: u32,
+    /// With 14, by how many columns the first bad pair is out of range; else 0.
+    pub amount: i32,
+}
+
+impl From<u32> for Refused {
+    /// A refusal that carries no amount.
+    fn from(number: u32) -> Self {
+        Refused { number, amount: 0 }
+    }
+}
+
 fn u16_at(bytes: &[u8], at: usize) -> usize {
     usize::from(bytes[at]) + 256 * usize::from(bytes[at + 1])
 }
@@ -80,9 +95,21 @@ fn names(terminal: &Terminal, column: u8) -> bool {
 }
 
 /// Whether the terminal may stand in `column` where the one before it stands in `before`.
-fn within(terminal: &Terminal, before: u8, column: u8) -> bool {
+pub fn within(terminal: &Terminal, before: u8, column: u8) -> bool {
     let distance = i32::from(column) - i32::from(before);
     i32::from(terminal.least) <= distance && distance <= i32::from(terminal.greatest)
+}
+
+/// By how many columns a terminal stands out of the stretch of columns that its range leaves it: negative where it is left of the stretch,
+/// which is tried first, positive where it is right of it.
+pub fn amount(before: u8, column: u8, least: u8, greatest: u8) -> i32 {
+    let [before, column, least, greatest] = [before, column, least, greatest].map(i32::from);
+    let (leftmost, rightmost) = (before + least, before + greatest);
+    if column < leftmost {
+        column - leftmost
+    } else {
+        0.max(column - rightmost)
+    }
 }
 
 impl Channel {
@@ -117,23 +144,27 @@ impl Channel {
         (1..=self.length).map(|column| pins.iter().filter(|pins| crosses(pins, column)).count() as u32).max().unwrap()
     }
 
+    /// The amounts of the top pairs and of the bottom pairs, by place; the list has a column for each terminal.
+    pub fn amounts(&self, list: &[u8]) -> [Vec<i32>; 2] {
+        let (top, bottom) = list.split_at(self.top.len());
+        [(&self.top, top), (&self.bottom, bottom)].map(|(terminals, columns)| {
+            let later = terminals.iter().skip(1);
+            columns.windows(2).zip(later).map(|(pair, t)| amount(pair[0], pair[1], t.least, t.greatest)).collect()
+        })
+    }
+
     /// The density of a column list, or 12, 13 or 14.
-    pub fn measure(&self, list: &[u8]) -> Result<u32, u32> {
+    pub fn measure(&self, list: &[u8]) -> Result<u32, Refused> {
         if list.len() != self.terminals() {
-            return Err(12);
+            return Err(12.into());
         }
         if self.top.iter().chain(&self.bottom).zip(list).any(|(t, c)| !names(t, *c)) {
-            return Err(13);
+            return Err(13.into());
         }
-        let (top, bottom) = list.split_at(self.top.len());
-        for (terminals, columns) in [(&self.top, top), (&self.bottom, bottom)] {
-            for place in 1..columns.len() {
-                if !within(&terminals[place], columns[place - 1], columns[place]) {
-                    return Err(14);
-                }
-            }
+        match self.amounts(list).concat().into_iter().find(|amount| *amount != 0) {
+            Some(amount) => Err(Refused { number: 14, amount }),
+            None => Ok(self.density(list)),
         }
-        Ok(self.density(list))
     }
 
     /// The word of a column list: a letter a column, from column L down.

@@ -5,10 +5,19 @@ use cazdrob::{Refusal, Searcher};
 #[test]
 fn refusals_have_their_numbers() {
     use Refusal::*;
-    let all = [Short, Mark, Length, Count, Layout, Net, Distance, Beyond, Columns, Cells, NoAssignment, ListLength, NotAllowed, OutOfRange];
+    let out = OutOfRange { amount: 1 };
+    let all = [Short, Mark, Length, Count, Layout, Net, Distance, Beyond, Columns, Cells, NoAssignment, ListLength, NotAllowed, out];
     for (place, refusal) in all.into_iter().enumerate() {
         assert_eq!(refusal.number(), place as u32 + 1);
         assert!(refusal.to_string().starts_with(&format!("refused {}: ", place + 1)));
+    }
+}
+
+#[test]
+fn an_amount_in_words() {
+    let rows = [(-5, "5 columns too close"), (-1, "1 column too close"), (1, "1 column too far apart"), (62, "62 columns too far apart")];
+    for (amount, words) in rows {
+        assert_eq!(Refusal::OutOfRange { amount }.to_string(), format!("refused 14: a distance is out of range, {words}"));
     }
 }
 

@@ -6,10 +6,10 @@ use Rattle.exhaustive.proofs.measures.measure_all.Statement.{statement}
 use Rattle.exhaustive.proofs.measures.measure_all.Tie as tie
 
 abbrev Inv-loop : tie.InvT-loop
-Inv-loop case page all₀ k₀ all k = Unit {0}
+Inv-loop case page tally₀ wrong₀ k₀ tally wrong k = Unit {0}
 
 abbrev μ-loop : tie.MeasureT-loop
-μ-loop case page all₀ k₀ all k = 8 - k
+μ-loop case page tally₀ wrong₀ k₀ tally wrong k = 8 - k
 
 pub measure-all-spec : {M : Type 1} → statement M
 measure-all-spec =
@@ -17,6 +17,7 @@ measure-all-spec =
     (tie.spec
     Inv-loop
     μ-loop
+    (λ c κs. search needs)
     (λ c. search needs)
     (λ c κs. search needs)
     (λ c κs. search needs)

@@ -1,0 +1,5 @@
+pub mod Amounts
+pub mod Scans
+pub mod Columns
+pub mod Returned
+pub mod Laws
