@@ -19,7 +19,7 @@ use Rattle.sheet.specs.declared.Opened.the-variants as opened
 use Rattle.sheet.specs.declared.Shape.{Shape}
 use Rattle.format.specs.Parts.{bytesOf, terminalsIn}
 use Rattle.sheet.specs.Parts.{openedOf, sheetIn}
-use Rattle.sheet.proofs.Laws.{Opens, opens}
+use Rattle.sheet.proofs.Laws.{Opens, opens, same-sheet, same-shape}
 use Rattle.list.specs.declared.Listed.{Listed}
 use Rattle.list.specs.declared.Listed.the-variants.{Assignment, Refused}
 use Rattle.list.specs.Answer.{sideAllowed, allAllowed, firstOf, sideAmount, firstAmount}
@@ -99,29 +99,18 @@ module _ (b cs : List ℕ) (n : Layout) (opening : openedOf b ≡ opened.Sound n
       (sound-listed
       ∙ rw (ne-eqb (length cs) (length (sheetOf b .top) + length (sheetOf b .bottom)) (λ e. h (e ∙ sym pins-counted))))
 
-  columns-counted : n .shape .columns ≡ sheetOf b .columns
-  columns-counted = ap (λ (f : Shape). f .columns) (laws .shape)
-
   -- a list that is p+q long, beside the two sections
   module _ (long : length cs ≡ n .shape .pins) (top bottom : List ℕ) (isTop : top ≡ bytesOf b (n .top))
       (isBottom : bottom ≡ bytesOf b (n .bottom)) where
-    top-terminals : terminalsIn top ≡ sheetOf b .top
-    top-terminals = ap terminalsIn isTop ∙ laws .top
-
-    bottom-terminals : terminalsIn bottom ≡ sheetOf b .bottom
-    bottom-terminals = ap terminalsIn isBottom ∙ laws .bottom
-
-    tops-counted : n .shape .top ≡ length (terminalsIn top)
-    tops-counted = ap (λ (f : Shape). f .top) (laws .shape) ∙ sym (ap length top-terminals)
-
     pub counted : (n .shape .top ≡ length (terminalsIn top)) × (length cs ≡ n .shape .top + length (terminalsIn bottom))
-    counted = (tops-counted, omega (arith, long, pins-counted, tops-counted, ap length top-terminals, ap length bottom-terminals))
+    counted =
+        let shape = same-shape b n laws top bottom isTop isBottom in
+        let p = ap (λ (f : Shape). f .top) shape in
+        (p, omega (arith, long, p, ap (λ (f : Shape). f .pins) shape))
 
     pub columns-checked : (r : Listed) → r ≡ columnsListed (sheetIn (n .shape .columns) top bottom) cs n → r ≡ listedOf b cs
     unfolding sheetListed
     columns-checked r e =
-        let same : sheetIn (n .shape .columns) top bottom ≡ sheetOf b
-        = rw (columns-counted, top-terminals, bottom-terminals) in
         e
-        ∙ ap (λ (s : Sheet). columnsListed s cs n) same
+        ∙ ap (λ (s : Sheet). columnsListed s cs n) (same-sheet b n laws top bottom isTop isBottom)
         ∙ sym (sound-listed ∙ rw (eq-eqb (length cs) (length (sheetOf b .top) + length (sheetOf b .bottom)) (long ∙ pins-counted)))

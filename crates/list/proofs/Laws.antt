@@ -19,7 +19,7 @@ use Rattle.sheet.specs.declared.Opened.the-variants as opened
 use Rattle.sheet.specs.declared.Shape.{Shape}
 use Rattle.sheet.specs.Parts.{openedOf}
 use Rattle.sheet.proofs.Laws.{Opens, opens}
-use Rattle.list.specs.declared.Listed.the-variants.{Assignment, Refused}
+use Rattle.list.specs.declared.Listed.the-variants.{Assignment}
 use Rattle.list.specs.Answer.{allAllowed, zero?, firstAmount, unless, columnsListed, sheetListed, listedAs, listedOf}
 use Rattle.list.specs.Returned.{numberOf}
 use Rattle.list.proofs.Returned.{one-list, assignment-long}

@@ -1,10 +1,9 @@
 -- A measurement, from what the list's check and the counting answer.
 -- Assumes nothing.
-use Prim.Native.Nat.{ℕ, _+_}
-use mathlib.Core.Path.{_≡_, sym, _∙_, ap}
+use Prim.Native.Nat.{ℕ}
+use mathlib.Core.Path.{_≡_, _∙_, ap}
 use mathlib.Core.List.{List}
 use native.Mathlib.Omega.{arith}
-use lib.ListN.{length}
 use Rattle.channel.specs.Sheet.{Sheet}
 use Rattle.channel.specs.Density.{density}
 use Rattle.refusals.specs.declared.ListRefusal.{ListRefusal}
@@ -12,8 +11,9 @@ use Rattle.soundness.specs.Read.{sheetOf}
 use Rattle.soundness.proofs.Laws.{read-sound}
 use Rattle.sheet.specs.declared.Layout.{Layout}
 use Rattle.sheet.specs.declared.Shape.{Shape}
-use Rattle.format.specs.Parts.{bytesOf, terminalsIn}
+use Rattle.format.specs.Parts.{bytesOf}
 use Rattle.sheet.specs.Parts.{sheetIn}
+use Rattle.sheet.proofs.Laws.{same-sheet, same-shape}
 use Rattle.list.specs.declared.Listed.the-variants as listed
 use Rattle.list.specs.Answer.{listedOf}
 use Rattle.list.proofs.Laws.{Assigns, assigns}
@@ -31,29 +31,21 @@ module _ (b cs : List ℕ) (n : Layout) (answer : listedOf b cs ≡ listed.Assig
   laws : Assigns b cs n
   laws = assigns b cs n answer
 
-  top-terminals : terminalsIn top ≡ sheetOf b .top
-  top-terminals = ap terminalsIn isTop ∙ laws .opens .top
-
-  bottom-terminals : terminalsIn bottom ≡ sheetOf b .bottom
-  bottom-terminals = ap terminalsIn isBottom ∙ laws .opens .bottom
-
-  columns-counted : n .shape .columns ≡ sheetOf b .columns
-  columns-counted = ap (λ (f : Shape). f .columns) (laws .opens .shape)
-
   pub laid : AsksDensity top bottom cs (n .shape .top) (n .shape .columns)
   laid =
       let s = read-sound b (sheetOf b) (laws .opens .reads) in
-      let p : n .shape .top ≡ length (sheetOf b .top) = ap (λ (f : Shape). f .top) (laws .opens .shape) in
-      let pins : n .shape .pins ≡ length (sheetOf b .top) + length (sheetOf b .bottom) = ap (λ (f : Shape). f .pins) (laws .opens .shape) in
+      let shape = same-shape b n (laws .opens) top bottom isTop isBottom in
+      let p = ap (λ (f : Shape). f .top) shape in
+      let pins = ap (λ (f : Shape). f .pins) shape in
+      let whole = laws .opens .shape in
       record {
-        tops = p ∙ sym (ap length top-terminals);
-        long = omega (arith, laws .long, pins, p, ap length bottom-terminals);
-        few = omega (arith, laws .long, pins, s .counts);
-        short = omega (arith, columns-counted, s .columns);
+        tops = p;
+        long = omega (arith, laws .long, pins, p);
+        few = omega (arith, laws .long, ap (λ (f : Shape). f .pins) whole, s .counts);
+        short = omega (arith, ap (λ (f : Shape). f .columns) whole, s .columns);
       }
 
   pub density-counted : (d : ℕ) → d ≡ density (sheetIn (n .shape .columns) top bottom) cs → Density d ≡ measuredOf b cs
   unfolding measuredOf
   density-counted d e =
-      let same : sheetIn (n .shape .columns) top bottom ≡ sheetOf b = rw (columns-counted, top-terminals, bottom-terminals) in
-      rw answer (ap Density (e ∙ ap (λ (s : Sheet). density s cs) same))
+      rw answer (ap Density (e ∙ ap (λ (s : Sheet). density s cs) (same-sheet b n (laws .opens) top bottom isTop isBottom)))

@@ -1,12 +1,12 @@
 -- Why the search keeps its promise: each way out of it, from what its calls answered.
 -- Assumes nothing.
 use Prim.Native.Nat.{ℕ, _≤_, _<_}
-use mathlib.Core.Path.{_≡_, refl, sym, _∙_, ap, ap₂}
+use mathlib.Core.Path.{_≡_, refl, sym, _∙_, ap}
 use mathlib.Core.List.{List}
 use native.Mathlib.Omega.{arith}
 use lib.ListN.{length}
 use borrow.Author.Tests.{lt-ltb, le-ltb}
-use Rattle.channel.specs.Sheet.{Terminal, Sheet}
+use Rattle.channel.specs.Sheet.{Sheet}
 use Rattle.channel.specs.Best.{Found, best}
 use Rattle.channel.specs.Best.Found.{none, found}
 use Rattle.refusals.specs.declared.Refusal.{Refusal}
@@ -15,10 +15,10 @@ use Rattle.soundness.specs.Read.{sheetOf}
 use Rattle.sheet.specs.declared.Layout.{Layout}
 use Rattle.sheet.specs.declared.Opened.the-variants as opened
 use Rattle.sheet.specs.declared.Shape.{Shape}
-use Rattle.format.specs.Parts.{bytesOf, terminalsIn}
-use Rattle.sheet.specs.Parts.{shape, openedOf, sheetIn}
+use Rattle.format.specs.Parts.{bytesOf}
+use Rattle.sheet.specs.Parts.{openedOf, sheetIn}
 use Rattle.soundness.proofs.Laws.{read-sound}
-use Rattle.sheet.proofs.Laws.{opened-refused, Opens, opens}
+use Rattle.sheet.proofs.Laws.{opened-refused, Opens, opens, same-sheet, same-shape}
 use Rattle.searched.specs.declared.Searched.{Searched}
 use Rattle.searched.specs.declared.Searched.the-variants as searched
 use Rattle.pass.specs.declared.Outcome.{Outcome}
@@ -80,22 +80,15 @@ module _ (b columns work : List ℕ) where
 
     -- the sections are those of the sheet
     module _ (tops bottoms : List ℕ) (first : tops ≡ bytesOf b (layout .top)) (second : bottoms ≡ bytesOf b (layout .bottom)) where
-      same-sheet : sheetIn (n .columns) tops bottoms ≡ sheetOf b
-      same-sheet =
-          ap₂ (λ (ts bs : List Terminal). record { columns = n .columns; top = ts; bottom = bs })
-          (ap terminalsIn first ∙ laws .top)
-          (ap terminalsIn second ∙ laws .bottom)
-          ∙ ap (λ (k : ℕ). record { columns = k; top = sheetOf b .top; bottom = sheetOf b .bottom })
-          (ap (λ (k : Shape). k .columns) (laws .shape))
+      same : sheetIn (n .columns) tops bottoms ≡ sheetOf b
+      same = same-sheet b layout laws tops bottoms first second
 
       pub solve-asked :
           n .pins ≤ length columns → n .cells ≤ length work → AsksSolve tops bottoms n (length columns) (length work)
       solve-asked g h =
           record {
-            sound = rw same-sheet (read-sound b (sheetOf b) (laws .reads));
-            numbers =
-                laws .shape
-                ∙ sym (ap (λ (s : Sheet). shape (s .columns) (length (s .top)) (length (s .bottom))) same-sheet);
+            sound = rw same (read-sound b (sheetOf b) (laws .reads));
+            numbers = same-shape b layout laws tops bottoms first second;
             pins = g;
             cells = h;
           }
@@ -105,7 +98,7 @@ module _ (b columns work : List ℕ) where
           (solved : Solved tops bottoms n columns columns' work work' r)
         where
           written : columns' ≡ withColumns (best (sheetOf b)) columns
-          written = solved .written ∙ ap (λ (s : Sheet). withColumns (best s) columns) same-sheet
+          written = solved .written ∙ ap (λ (s : Sheet). withColumns (best s) columns) same
 
           zeros : work' ≡ cleared (cellsNeeded (sheetOf b)) work
           zeros = solved .cells ∙ ap (λ (k : ℕ). cleared k work) cells
@@ -118,14 +111,14 @@ module _ (b columns work : List ℕ) where
               answers _ _ ∙ rw (le-ltb _ _ a, le-ltb _ _ c)
 
           found-one : (d : ℕ) → r ≡ outcome.Least d → answerAs (best (sheetOf b)) ≡ searched.Found d
-          found-one d e = by-best (best (sheetOf b)) (sym (solved .outcome ∙ ap (λ (s : Sheet). outcomeOf (best s)) same-sheet) ∙ e)
+          found-one d e = by-best (best (sheetOf b)) (sym (solved .outcome ∙ ap (λ (s : Sheet). outcomeOf (best s)) same) ∙ e)
             where
               by-best : (f : Found) → outcomeOf f ≡ outcome.Least d → answerAs f ≡ searched.Found d
               by-best none q = let z : _≡_ {A = ℕ} 0 1 = cc in absurd (omega arith)
               by-best (found k cs) q = let z : k ≡ d = cc in ap searched.Found z
 
           found-none : r ≡ outcome.Nothing → best (sheetOf b) ≡ none
-          found-none e = by-best (best (sheetOf b)) (sym (solved .outcome ∙ ap (λ (s : Sheet). outcomeOf (best s)) same-sheet) ∙ e)
+          found-none e = by-best (best (sheetOf b)) (sym (solved .outcome ∙ ap (λ (s : Sheet). outcomeOf (best s)) same) ∙ e)
             where
               by-best : (f : Found) → outcomeOf f ≡ outcome.Nothing → f ≡ none
               by-best none q = refl

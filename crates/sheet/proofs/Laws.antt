@@ -1,7 +1,7 @@
 -- What the layers above may use of the sheet layer: laws of its definitions that say nothing of where a byte stands.
 -- Assumes nothing.
 use Prim.Native.Nat.{ℕ}
-use mathlib.Core.Path.{_≡_, refl, _∙_, ap}
+use mathlib.Core.Path.{_≡_, refl, sym, _∙_, ap}
 use mathlib.Core.List.{List}
 use lib.ListN.{length}
 use Rattle.channel.specs.Sheet.{Sheet}
@@ -15,7 +15,8 @@ use Rattle.soundness.specs.Read.{sheetOf, read}
 use Rattle.soundness.specs.Read.Read.{sound}
 use Rattle.sheet.specs.declared.Layout.{Layout}
 use Rattle.sheet.specs.declared.Opened.the-variants.{Sound as Laid}
-use Rattle.sheet.specs.Parts.{shape, shapeAs, shapeOf, openedOf, sectionOf, entryOf, entryIn}
+use Rattle.sheet.specs.declared.Shape.{Shape}
+use Rattle.sheet.specs.Parts.{shape, shapeAs, shapeOf, openedOf, sectionOf, sheetIn, entryOf, entryIn}
 use Rattle.soundness.proofs.Laws.{sound-read}
 use Rattle.sheet.proofs.Sections.{opened-sound, layout-shape, sound-section}
 -- what the check refuses does not open
@@ -49,6 +50,17 @@ opens b n h =
       top = ap terminalsIn (section Top) ∙ section-terminals b (sheetOf b) reads Top;
       bottom = ap terminalsIn (section Bottom) ∙ section-terminals b (sheetOf b) reads Bottom;
     }
+
+-- its length and its two parts make the sheet, of its shape
+module _ (b : List ℕ) (n : Layout) (laws : Opens b n) (top bottom : List ℕ) (isTop : top ≡ bytesOf b (n .top))
+    (isBottom : bottom ≡ bytesOf b (n .bottom)) where
+  pub same-sheet : sheetIn (n .shape .columns) top bottom ≡ sheetOf b
+  same-sheet =
+      let columns : n .shape .columns ≡ sheetOf b .columns = ap (λ (f : Shape). f .columns) (laws .shape) in
+      rw (columns, isTop, isBottom, laws .top, laws .bottom)
+
+  pub same-shape : n .shape ≡ shape (n .shape .columns) (length (terminalsIn top)) (length (terminalsIn bottom))
+  same-shape = laws .shape ∙ sym (ap (λ (s : Sheet). shape (s .columns) (length (s .top)) (length (s .bottom))) same-sheet)
 
 -- the entry at a place of a section is that of its terminals
 pub entry-in : (part : List ℕ) (place : ℕ) → entryIn part place ≡ entryOf (terminalsIn part) place
