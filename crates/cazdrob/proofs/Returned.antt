@@ -27,5 +27,7 @@ pub host-measurement : {bytes columns : List ℕ} {density' : ℕ} {amount' : �
     → measure.Returned bytes columns r density' amount'
 host-measurement host = rw (host .number, host .density, host .amount) (one-measurement _ _ _ refl)
 
-pub host-distance : {least greatest before column : ℕ} {r : ℤ} → r ≡ amount least greatest before column → Says least greatest before column r
+pub host-distance :
+    {least greatest before column : ℕ} {r : ℤ} → r ≡ amount least greatest before column
+    → Says least greatest before column r
 host-distance e = rw e (amount-says _ _ _ _)

@@ -48,7 +48,8 @@ opened-listed b cs n h = by-opened (openedOf b) refl h
     by-opened (opened.Sound l) e h =
         e
         ∙ ap opened.Sound
-        (same-layout (eqb (length cs) (length (s .top) + length (s .bottom))) (allAllowed s cs) (zero? (firstAmount s cs)) (firstAmount s cs) l n h)
+        (same-layout (eqb (length cs) (length (s .top) + length (s .bottom))) (allAllowed s cs) (zero? (firstAmount s cs))
+        (firstAmount s cs) l n h)
     by-opened (opened.Refused why) e h = let f : _≡_ {A = ℕ} 0 1 = cc in absurd (omega arith)
 
 pub assigns : (b cs : List ℕ) (n : Layout) → listedOf b cs ≡ Assignment n → Assigns b cs n
