@@ -26,7 +26,7 @@ minus-more n (suc k) = ap negsuc (omega arith)
 
 -- the three ways that a column can stand to the range
 module _ (least greatest before column : ℕ) where
-  pub too-short : column < before + least → amount least greatest before column ≡ negsuc (before + least - suc column)
+  too-short : column < before + least → amount least greatest before column ≡ negsuc (before + least - suc column)
   unfolding amount
   too-short h = by-order (leb before column) refl
     where
@@ -46,13 +46,13 @@ module _ (least greatest before column : ℕ) where
     not-short : ltb (column - before) least ≡ false
     not-short = le-ltb (column - before) least (omega arith)
 
-    pub too-long : before + greatest < column → amount least greatest before column ≡ pos (column - (before + greatest))
+    too-long : before + greatest < column → amount least greatest before column ≡ pos (column - (before + greatest))
     unfolding amount
     too-long h =
         let right : greatest < column - before = omega arith in
         rw (apart, not-short, lt-ltb _ _ right, minus-long (column - before) greatest (omega arith)) (ap pos (omega arith))
 
-    pub in-range : column ≤ before + greatest → amount least greatest before column ≡ pos 0
+    in-range : column ≤ before + greatest → amount least greatest before column ≡ pos 0
     unfolding amount
     in-range h =
         let right : column - before ≤ greatest = omega arith in

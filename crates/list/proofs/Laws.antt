@@ -4,14 +4,12 @@
 use Prim.Native.Nat.{ℕ, _+_}
 use mathlib.Core.Path.{_≡_, refl, sym, _∙_, ap}
 use mathlib.Core.List.{List}
-use mathlib.Core.Bool.{Bool, true, false}
+use mathlib.Core.Bool.{true}
 use native.Mathlib.Omega.{arith}
 use lib.ListN.{length}
 use lib.Dec.{eqb}
-use lib.IntN.{ℤ}
 use Rattle.channel.specs.Sheet.{Sheet}
 use Rattle.channel.specs.Assignment.{assignment?}
-use Rattle.refusals.specs.declared.ListRefusal.the-variants.{Count, Allowed, Distance}
 use Rattle.soundness.specs.Read.{sheetOf}
 use Rattle.sheet.specs.declared.Layout.{Layout}
 use Rattle.sheet.specs.declared.Opened.{Opened}
@@ -20,9 +18,9 @@ use Rattle.sheet.specs.declared.Shape.{Shape}
 use Rattle.sheet.specs.Parts.{openedOf}
 use Rattle.sheet.proofs.Laws.{Opens, opens}
 use Rattle.list.specs.declared.Listed.the-variants.{Assignment}
-use Rattle.list.specs.Answer.{allAllowed, zero?, firstAmount, unless, columnsListed, sheetListed, listedAs, listedOf}
+use Rattle.list.specs.Answer.{allAllowed, zero?, firstAmount, columnsListed, sheetListed, listedAs, listedOf}
 use Rattle.list.specs.Returned.{numberOf}
-use Rattle.list.proofs.Returned.{one-list, assignment-long}
+use Rattle.list.proofs.Returned.{one-list, assignment-long, tests-passed}
 
 pub record Assigns (b cs : List ℕ) (n : Layout) : Type 0 where
   pub opens : Opens b n
@@ -30,13 +28,6 @@ pub record Assigns (b cs : List ℕ) (n : Layout) : Type 0 where
   pub assigned : assignment? (sheetOf b) cs ≡ true
 
 -- the layout that came is the one that the sheet opened with
-same-layout :
-    (t a k : Bool) (z : ℤ) (l n : Layout) → unless t Count (unless a Allowed (unless k (Distance z) (Assignment l))) ≡ Assignment n → l ≡ n
-same-layout true true true z l n e = cc
-same-layout true true false z l n e = let f : _≡_ {A = ℕ} 0 1 = cc in absurd (omega arith)
-same-layout true false k z l n e = let f : _≡_ {A = ℕ} 0 1 = cc in absurd (omega arith)
-same-layout false a k z l n e = let f : _≡_ {A = ℕ} 0 1 = cc in absurd (omega arith)
-
 opened-listed : (b cs : List ℕ) (n : Layout) → listedOf b cs ≡ Assignment n → openedOf b ≡ opened.Sound n
 unfolding listedOf sheetListed columnsListed
 opened-listed b cs n h = by-opened (openedOf b) refl h
@@ -46,10 +37,11 @@ opened-listed b cs n h = by-opened (openedOf b) refl h
 
     by-opened : (o : Opened) → openedOf b ≡ o → listedAs s cs o ≡ Assignment n → openedOf b ≡ opened.Sound n
     by-opened (opened.Sound l) e h =
-        e
-        ∙ ap opened.Sound
-        (same-layout (eqb (length cs) (length (s .top) + length (s .bottom))) (allAllowed s cs) (zero? (firstAmount s cs))
-        (firstAmount s cs) l n h)
+        let came =
+        tests-passed (eqb (length cs) (length (s .top) + length (s .bottom))) (allAllowed s cs) (zero? (firstAmount s cs))
+        (firstAmount s cs) l (ap numberOf h) .1 in
+        let same : l ≡ n = cc in
+        e ∙ ap opened.Sound same
     by-opened (opened.Refused why) e h = let f : _≡_ {A = ℕ} 0 1 = cc in absurd (omega arith)
 
 pub assigns : (b cs : List ℕ) (n : Layout) → listedOf b cs ≡ Assignment n → Assigns b cs n

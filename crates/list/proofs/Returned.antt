@@ -99,11 +99,12 @@ assignment-long s cs holds =
     eqb-true _ _
     (and-eq-true-iff (eqb (length cs) (length (s .top) + length (s .bottom))) _ .0 (sym (assignment-tests s cs) ∙ holds) .0)
 
--- a number other than 0 is a refusal's
-tests-passed :
-    (n a k : Bool) (z : ℤ) (l : Layout) → numberOf (unless n Count (unless a Allowed (unless k (Distance z) (Assignment l)))) ≡ 0
-    → (n && (a && k)) ≡ true
-tests-passed true true true z l e = refl
+-- with the number 0 all tests hold, and the layout is the one handed in
+pub tests-passed :
+    (n a k : Bool) (z : ℤ) (l : Layout)
+    → let r = unless n Count (unless a Allowed (unless k (Distance z) (Assignment l))) in
+    numberOf r ≡ 0 → ((n && (a && k)) ≡ true) × (r ≡ Assignment l)
+tests-passed true true true z l e = (refl, refl)
 tests-passed true true false z l e = absurd (omega arith)
 tests-passed true false k z l e = absurd (omega arith)
 tests-passed false a k z l e = absurd (omega arith)
@@ -154,7 +155,7 @@ module _ (bytes columns : List ℕ) (r : Listed) (answer : r ≡ listedOf bytes 
     only passed =
         assignment-tests s columns
         ∙ tests-passed (eqb (length columns) (length (s .top) + length (s .bottom))) (allAllowed s columns) (zero? (firstAmount s columns))
-        (firstAmount s columns) (layoutOf bytes) (sym (ap numberOf (answer ∙ of-sheet)) ∙ passed)
+        (firstAmount s columns) (layoutOf bytes) (sym (ap numberOf (answer ∙ of-sheet)) ∙ passed) .0
 
   -- demands 1 and 2 of one check
   pub one-list : Returned bytes columns (numberOf r) (amountOf r)

@@ -1,4 +1,4 @@
-// Whether a column list is an assignment of a sheet, which every call on such a list asks first. The sheet is read only through the sheet
+// Whether a column list is an assignment of a sheet, which a call on such a list asks first. The sheet is read only through the sheet
 // layer.
 
 mod rules;

@@ -67,19 +67,19 @@ module _ {before column : ℕ} (b : before < 256) (c : column < 256) where
     long-read : ltZ (toZ w16 greatest) (toZ w16 word) ≡ ltZ (pos greatest) (distance before column)
     long-read = ap₂ ltZ (byte greatest g) held
 
-    pub too-short :
+    pub short-held :
         ltZ (toZ w16 word) (toZ w16 least) ≡ true
         → toZ w16 (ofZ w16 (toZ w16 word -ℤ toZ w16 least)) ≡ amount least greatest before column
     unfolding amount
-    too-short h = less-held word least (distance before column) held small l ∙ sym (rw (sym short-read ∙ h))
+    short-held h = less-held word least (distance before column) held small l ∙ sym (rw (sym short-read ∙ h))
 
     module _ (h : ltZ (toZ w16 word) (toZ w16 least) ≡ false) where
-      pub too-long :
+      pub long-held :
           ltZ (toZ w16 greatest) (toZ w16 word) ≡ true
           → toZ w16 (ofZ w16 (toZ w16 word -ℤ toZ w16 greatest)) ≡ amount least greatest before column
       unfolding amount
-      too-long k = less-held word greatest (distance before column) held small g ∙ sym (rw (sym short-read ∙ h, sym long-read ∙ k))
+      long-held k = less-held word greatest (distance before column) held small g ∙ sym (rw (sym short-read ∙ h, sym long-read ∙ k))
 
-      pub in-range : ltZ (toZ w16 greatest) (toZ w16 word) ≡ false → pos 0 ≡ amount least greatest before column
+      pub range-held : ltZ (toZ w16 greatest) (toZ w16 word) ≡ false → pos 0 ≡ amount least greatest before column
       unfolding amount
-      in-range k = sym (rw (sym short-read ∙ h, sym long-read ∙ k))
+      range-held k = sym (rw (sym short-read ∙ h, sym long-read ∙ k))

@@ -1,7 +1,7 @@
 -- `terminal::amount` meets its contract: no signed difference overflows, and each of the three answers is the definition's.
 -- Assumes nothing.
 use borrow.Author.Needs.{needs}
-use Rattle.terminal.proofs.Distances.{distance-fits, excess-fits, too-short, too-long, in-range}
+use Rattle.terminal.proofs.Distances.{distance-fits, excess-fits, short-held, long-held, range-held}
 use Rattle.terminal.proofs.columns.amount.Statement.{statement}
 use Rattle.terminal.proofs.columns.amount.Tie as tie
 
@@ -16,7 +16,7 @@ sub-result c =
 returns : tie.Need-returns
 returns c =
     let f = c .before .fits in
-    too-short (f .before .fits) (f .column .fits) (f .least .fits) (f .greatest .fits) (c .if1 .taken)
+    short-held (f .before .fits) (f .column .fits) (f .least .fits) (f .greatest .fits) (c .if1 .taken)
 
 sub-result-2 : tie.Need-sub-result-2
 sub-result-2 c =
@@ -26,12 +26,12 @@ sub-result-2 c =
 returns-2 : tie.Need-returns-2
 returns-2 c =
     let f = c .before .before .fits in
-    too-long (f .before .fits) (f .column .fits) (f .least .fits) (f .greatest .fits) (c .before .if1 .left) (c .if2 .taken)
+    long-held (f .before .fits) (f .column .fits) (f .least .fits) (f .greatest .fits) (c .before .if1 .left) (c .if2 .taken)
 
 returns-3 : tie.Need-returns-3
 returns-3 c =
     let f = c .before .before .fits in
-    in-range (f .before .fits) (f .column .fits) (f .least .fits) (f .greatest .fits) (c .before .if1 .left) (c .if2 .left)
+    range-held (f .before .fits) (f .column .fits) (f .least .fits) (f .greatest .fits) (c .before .if1 .left) (c .if2 .left)
 
 pub amount-spec : {M : Type 1} → statement M
 amount-spec =
