@@ -16,10 +16,10 @@ use Rattle.channel.specs.Distance.{amount}
 use Rattle.channel.proofs.Assignments.{fits-lengths}
 use Rattle.soundness.specs.Read.{read}
 use Rattle.soundness.specs.Read.Read.{sound, refused}
-use Rattle.soundness.proofs.Laws.{read-checked, read-refused}
 use Rattle.refusals.specs.declared.ListRefusal.the-variants.{Sheet as Unsound, Count, Allowed, Distance}
 use Rattle.sheet.specs.declared.Layout.{Layout}
-use Rattle.sheet.specs.Parts.{layoutOf, openedOf}
+use Rattle.sheet.specs.Parts.{layoutOf}
+use Rattle.sheet.proofs.Laws.{read-opened, read-unopened}
 use Rattle.list.specs.declared.Listed.{Listed}
 use Rattle.list.specs.declared.Listed.the-variants.{Assignment, Refused}
 use Rattle.list.specs.Answer.{sideAllowed, allAllowed, firstOf, laterAmount, sideAmount, firstAmount}
@@ -115,16 +115,16 @@ module _ (bytes columns : List ℕ) (r : Listed) (answer : r ≡ listedOf bytes 
   answers l e = (ap numberOf (answer ∙ e), ap amountOf (answer ∙ e))
 
   unsound : (n : ℕ) → read bytes ≡ refused n → Answers n (pos 0) (numberOf r) (amountOf r)
-  unfolding listedOf openedOf
+  unfolding listedOf
   unsound n h =
-      let (why, checks, number) = read-refused bytes n h in
-      let (same, none) = answers (Refused (Unsound why)) (rw checks) in
+      let (why, unopened, number) = read-unopened bytes n h in
+      let (same, none) = answers (Refused (Unsound why)) (rw unopened) in
       (same ∙ number, none)
 
   module _ (s : Sheet) (h : read bytes ≡ sound s) where
     of-sheet : listedOf bytes columns ≡ sheetListed s columns (layoutOf bytes)
-    unfolding listedOf openedOf
-    of-sheet = let (checks, same) = read-checked bytes s h in rw (checks, ← same)
+    unfolding listedOf
+    of-sheet = let (opened, same) = read-opened bytes s h in rw (opened, ← same)
 
     other : (Long s columns → ⊥) → Answers 12 (pos 0) (numberOf r) (amountOf r)
     unfolding sheetListed

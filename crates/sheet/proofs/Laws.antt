@@ -9,15 +9,17 @@ use Rattle.format.specs.declared.Side.{Side}
 use Rattle.format.specs.declared.Side.the-variants.{Top, Bottom}
 use Rattle.format.specs.Format.{ofSide}
 use Rattle.format.specs.Parts.{bytesOf, terminalsIn}
+use Rattle.refusals.specs.declared.Refusal.{Refusal}
 use Rattle.refusals.specs.declared.Checked.the-variants.{Sound}
+use Rattle.refusals.specs.Refusals.{numberOf}
 use Rattle.soundness.specs.Check.{checkOf}
 use Rattle.soundness.specs.Read.{sheetOf, read}
-use Rattle.soundness.specs.Read.Read.{sound}
+use Rattle.soundness.specs.Read.Read.{sound, refused}
 use Rattle.sheet.specs.declared.Layout.{Layout}
-use Rattle.sheet.specs.declared.Opened.the-variants.{Sound as Laid}
+use Rattle.sheet.specs.declared.Opened.the-variants.{Sound as Laid, Refused as Unsound}
 use Rattle.sheet.specs.declared.Shape.{Shape}
-use Rattle.sheet.specs.Parts.{shape, shapeAs, shapeOf, openedOf, sectionOf, sheetIn, entryOf, entryIn}
-use Rattle.soundness.proofs.Laws.{sound-read}
+use Rattle.sheet.specs.Parts.{shape, shapeAs, shapeOf, layoutOf, openedOf, sectionOf, sheetIn, entryOf, entryIn}
+use Rattle.soundness.proofs.Laws.{sound-read, read-checked, read-refused}
 use Rattle.sheet.proofs.Sections.{opened-sound, layout-shape, sound-section}
 -- what the check refuses does not open
 pub use Rattle.sheet.proofs.Sections.{opened-refused}
@@ -28,6 +30,15 @@ pub use Rattle.sheet.proofs.Sections.{section-terminals}
 pub shape-read : (b : List ℕ) (s : Sheet) → read b ≡ sound s → shapeOf b ≡ shape (s .columns) (length (s .top)) (length (s .bottom))
 unfolding shapeOf
 shape-read b s h = ap shapeAs h
+
+-- a sheet that reads opens, and one that does not is refused with its number
+pub read-opened : (b : List ℕ) (s : Sheet) → read b ≡ sound s → (openedOf b ≡ Laid (layoutOf b)) × (s ≡ sheetOf b)
+unfolding openedOf
+read-opened b s h = let (checks, same) = read-checked b s h in (rw checks, same)
+
+pub read-unopened : (b : List ℕ) (n : ℕ) → read b ≡ refused n → (why : Refusal) × (openedOf b ≡ Unsound why) × (numberOf why ≡ n)
+unfolding openedOf
+read-unopened b n h = let (why, checks, number) = read-refused b n h in (why, rw checks, number)
 
 -- what a sheet that opens says: it reads, its shape is that of the sheet, and its parts hold the terminals of the sides
 pub record Opens (b : List ℕ) (n : Layout) : Type 0 where
