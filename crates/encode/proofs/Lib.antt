@@ -1,0 +1,4 @@
+pub mod Left
+pub mod Lengths
+pub mod Bytes
+pub mod Encoded
