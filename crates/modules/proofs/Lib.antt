@@ -1,0 +1,4 @@
+pub mod Lists
+pub mod Moved
+pub mod Shapes
+pub mod Terminals
