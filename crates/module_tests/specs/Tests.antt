@@ -1,0 +1,36 @@
+-- The tests behind 16, 17, 4 and 6, of one side (document 02, T-02).
+-- Assumes nothing.
+use Prim.Native.Nat.{ℕ, _+_}
+use mathlib.Core.List.{List}
+use mathlib.Core.Bool.{_&&_}
+use lib.ListN.{length}
+use Rattle.modules.specs.Modules.{Module, pinCount, every, rising?, shaped?, allShaped?, within?, pinsNamed?, named?}
+use Rattle.module_tests.specs.declared.Tests.{Tests}
+use Rattle.module_tests.specs.declared.PinTests.{PinTests}
+
+abbrev pub pinTestsOf : Module → PinTests
+pinTestsOf m = record { rising = rising? (m .width) 0 (m .pins); named = pinsNamed? (m .pins) }
+
+-- of one module
+abbrev pub moduleTests : ℕ → Module → Tests
+moduleTests l m = record { pins = length (m .pins); shaped = shaped? m; within = within? l m; named = named? m }
+
+-- of modules, however many
+abbrev pub allTests : ℕ → List Module → Tests
+allTests l ms =
+    record { pins = pinCount ms; shaped = every shaped? ms; within = every (λ (m : Module). within? l m) ms; named = every named? ms }
+
+-- of some modules and others
+abbrev pub joined : Tests → Tests → Tests
+joined t u =
+    record {
+      pins = t .pins + u .pins;
+      shaped = t .shaped && u .shaped;
+      within = t .within && u .within;
+      named = t .named && u .named;
+    }
+
+-- of a side of modules in a channel of l columns
+abbrev pub testsOf : ℕ → List Module → Tests
+testsOf l ms =
+    record { pins = pinCount ms; shaped = allShaped? ms; within = every (λ (m : Module). within? l m) ms; named = every named? ms }
