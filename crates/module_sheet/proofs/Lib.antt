@@ -1,0 +1,4 @@
+mod Accepted
+mod Making
+pub mod Sound
+pub mod Returned
