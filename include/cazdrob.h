@@ -1,14 +1,16 @@
 /*
  * Cazdrob: the best pin assignment of a routing channel, for C and C++.
  *
- * docs/FORMAT.md has the rules: how a sheet is written, which assignment is the best one, what each refusal means.
+ * docs/FORMAT.md has the rules: how a sheet is written, which assignment is the best one, how two sides of modules become a sheet, what
+ * each refusal means.
  *
  * What the caller owes, in every call:
  *   - no pointer is null, not even one with length 0;
- *   - each points to as many elements as its length says (density and amount: to one), readable, and writable where it is not const,
- *     and is aligned for its type;
- *   - a length is at most PTRDIFF_MAX bytes;
- *   - what is written (columns and work of a search, density, amount) overlaps nothing else that is passed;
+ *   - each points to as many elements as its length says (density, amount and written: to one), readable, and writable where it is not
+ *     const, and is aligned for its type;
+ *   - none has a length of more than PTRDIFF_MAX bytes;
+ *   - what is written (columns and work of a search, the sheet that is made, density, amount, written) overlaps nothing else that is
+ *     passed;
  *   - during the call no other thread writes what was passed, and none reads what is written. Several threads may pass one sheet.
  * Nothing else is asked: every content of these buffers, every length and every byte has its answer.
  *
@@ -29,12 +31,15 @@ extern "C" {
 #endif
 
 /*
- * The numbers that are returned. Of several refusals that apply, the first is given: 1 to 5 in turn, then each terminal, top then bottom,
- * for 6, 7 and 8, then 9 to 11 in a search, 12 to 14 in a measurement: 13 over all terminals, then 14 over all pairs, top then bottom.
+ * The numbers that are returned. Of several refusals that apply, the first is given:
+ *   - of a sheet: 1 to 5 in turn, then each terminal, top then bottom, for 6, 7 and 8, then 9 to 11 in a search, 12 to 14 in a measurement:
+ *     13 over all terminals, then 14 over all pairs, top then bottom;
+ *   - of modules: 3, then 16 over all modules, top then bottom, then 17 likewise, then 4, 6 and 9.
+ * 15 is the program's alone.
  */
 enum cazdrob_number {
     CAZDROB_OK = 0,
-    /* the sheet: given by cazdrob_check, cazdrob_measure and cazdrob_search */
+    /* the sheet: given by cazdrob_check, cazdrob_measure and cazdrob_search; 3, 4 and 6 by cazdrob_modules too */
     CAZDROB_SHORT = 1,    /* the sheet is shorter than 12 bytes */
     CAZDROB_MARK = 2,     /* its last two bytes are not CP */
     CAZDROB_LENGTH = 3,   /* L is 0 or above 64 */
@@ -48,14 +53,21 @@ enum cazdrob_number {
     CAZDROB_CELLS = 10,         /* the work buffer is shorter than cazdrob_cells says */
     CAZDROB_NO_ASSIGNMENT = 11, /* no assignment exists */
     /* given by cazdrob_measure alone */
-    CAZDROB_LIST_LENGTH = 12, /* the list is not p+q long */
-    CAZDROB_NOT_ALLOWED = 13, /* a listed column is not in its terminal's set */
-    CAZDROB_OUT_OF_RANGE = 14 /* a distance is out of range, by *amount columns */
+    CAZDROB_LIST_LENGTH = 12,  /* the list is not p+q long */
+    CAZDROB_NOT_ALLOWED = 13,  /* a listed column is not in its terminal's set */
+    CAZDROB_OUT_OF_RANGE = 14, /* a distance is out of range, by *amount columns */
+    /* given by cazdrob_modules alone; its 9 is the sheet buffer, that of a search the column buffer */
+    CAZDROB_SHEET_BUFFER = 9, /* the sheet buffer is shorter than 12(p+q)+12 bytes */
+    CAZDROB_SHAPE = 16,       /* a module breaks its rule, or a side has more than 16 of them */
+    CAZDROB_EDGE = 17         /* a module's set names a left edge from which it does not fit the channel */
 };
 
 /* Enough for every sound sheet: its bytes, and the columns of its terminals. */
 #define CAZDROB_SHEET_MAX 1548
 #define CAZDROB_COLUMNS_MAX 128
+
+/* Enough for every list of modules that is not refused: 16 modules with 64 pins in all. */
+#define CAZDROB_SIDE_MAX 352
 
 /* 0 for a sound sheet, else the number of its refusal, 1 to 8. */
 uint32_t cazdrob_check(const uint8_t *sheet, size_t sheet_len);
@@ -99,6 +111,38 @@ uint32_t cazdrob_search(const uint8_t *sheet, size_t sheet_len,
                         uint8_t *columns, size_t columns_len,
                         uint16_t *work, size_t work_len,
                         uint32_t *density);
+
+/*
+ * Makes the sheet of two sides of modules, such as two rows of standard cells. A module covers some columns, has its pins in fixed places
+ * and moves whole. The sheet's assignments are the placements without overlap, one to one: where a module's left edge is in column e, its
+ * pin with offset o is in column e + o - 1. The sheet has its top section first.
+ *
+ * length is L, the columns of the channel. A side is a list of its modules from left to right, up to the list's end; an empty list is a
+ * side with no modules. The two lists may overlap, as neither is written. A module has
+ *   1 byte   its width in columns, 1 to 64;
+ *   1 byte   the number of its pins;
+ *   8 bytes  the set of its allowed left edges: bit 0 of the first byte is column 1, bit 7 of the last byte is column 64;
+ *   3 bytes  for each pin: its offset (1 byte; 1 is the module's first column) and its net (2 bytes, the low one first).
+ *
+ * The refusals, in their order:
+ *   3   length is 0 or above 64;
+ *   16  a module has no pins, is the seventeenth of its side, has a width of 0 or above 64, has offsets that break
+ *       1 <= o1 < o2 < .. <= width, or runs past the list's end;
+ *   17  a set names a left edge above L - width + 1, or any at all where the width is above L. An empty set passes; it leaves no placement;
+ *   4   a side has more than 64 pins;
+ *   6   a net is 0;
+ *   9   the sheet buffer is shorter than 12(p+q)+12 bytes, with p pins on top and q at the bottom.
+ * What sheet and *written held before plays no part.
+ *
+ *   returned              *written    sheet
+ *   0                     12(p+q)+12  the first *written bytes are the sheet, the rest is unchanged
+ *   3, 4, 6, 9, 16 or 17  0           unchanged
+ */
+uint32_t cazdrob_modules(size_t length,
+                         const uint8_t *top, size_t top_len,
+                         const uint8_t *bottom, size_t bottom_len,
+                         uint8_t *sheet, size_t sheet_len,
+                         size_t *written);
 
 #ifdef __cplusplus
 }

@@ -1,6 +1,6 @@
 /*
- * Tests the C functions: sheet A and others, with every byte around the lent buffers held to what it was. Each number that a function
- * can return is seen. Names each case that fails; the last line is 'N passed, M failed'.
+ * Tests the C functions: sheet A and others, modules, with every byte around the lent buffers held to what it was. Each number that a
+ * function can return is seen. Names each case that fails; the last line is 'N passed, M failed'.
  */
 #include <cazdrob.h>
 #include <stdio.h>
@@ -37,12 +37,27 @@ static const uint8_t BOUND[84] = {
     0, 0, 3, 0,   36, 0, 3, 0, 8, 0, 'C', 'P',
 };
 
+/* the modules of docs/FORMAT.md on top, one more at the bottom, and their sheet on five columns */
+static const uint8_t TOP[29] = {
+    3, 2, 7, 0, 0, 0, 0, 0, 0, 0,  1, 5, 0, 3, 6, 0, /* width 3, left edges 1 to 3; net 5 at offset 1, net 6 at 3 */
+    2, 1, 12, 0, 0, 0, 0, 0, 0, 0, 2, 2, 1,          /* width 2, left edges 3 and 4; net 258 at offset 2 */
+};
+static const uint8_t BOTTOM[13] = {1, 1, 31, 0, 0, 0, 0, 0, 0, 0, 1, 6, 0}; /* width 1, left edges 1 to 5; net 6 */
+static const uint8_t MADE[60] = {
+    5, 0, 0, 0,   7, 0, 0, 0, 0, 0, 0, 0,   /* T 1 */
+    6, 0, 2, 2,   28, 0, 0, 0, 0, 0, 0, 0,  /* T 2 */
+    2, 1, 2, 255, 24, 0, 0, 0, 0, 0, 0, 0,  /* T 3 */
+    6, 0, 0, 0,   31, 0, 0, 0, 0, 0, 0, 0,  /* B 1 */
+    0, 0, 3, 0,   36, 0, 1, 0, 5, 0, 'C', 'P',
+};
+
 /* The lent buffers are the middle of longer ones that are full of these. */
-enum { FRONT = 16, COLUMNS = 10, CELLS = 200 };
-static const uint8_t COLUMN = 0xa5;
+enum { FRONT = 16, COLUMNS = 10, CELLS = 300 };
+static const uint8_t BYTE = 0xa5;
 static const uint16_t CELL = 0x5aa5;
 static const uint32_t DENSITY = 0xdeadbeef;
 static const int32_t AMOUNT = -0x5aa55aa5;
+static const size_t WRITTEN = 0x5aa55aa5;
 
 struct lent {
     uint32_t number, density;
@@ -55,7 +70,7 @@ static struct lent search(const uint8_t *sheet, size_t len, size_t columns, size
     struct lent l;
     uint8_t before[64];
     memcpy(before, sheet, len);
-    memset(l.columns, COLUMN, sizeof l.columns);
+    memset(l.columns, BYTE, sizeof l.columns);
     for (size_t i = 0; i < FRONT + CELLS + FRONT; i++) l.work[i] = CELL;
     l.density = DENSITY;
     l.number = cazdrob_search(sheet, len, l.columns + FRONT, columns, l.work + FRONT, cells, &l.density);
@@ -63,13 +78,17 @@ static struct lent search(const uint8_t *sheet, size_t len, size_t columns, size
     return l;
 }
 
-/* whether the column buffer begins with these and is unchanged everywhere else */
-static int columns_are(const struct lent *l, const uint8_t *list, size_t count) {
-    for (size_t i = 0; i < sizeof l->columns; i++) {
-        int in_list = i >= FRONT && i < FRONT + count;
-        if (l->columns[i] != (in_list ? list[i - FRONT] : COLUMN)) return 0;
+/* whether the lent part of these bytes begins with the given ones and everything else is unchanged */
+static int bytes_are(const uint8_t *all, size_t len, const uint8_t *given, size_t count) {
+    for (size_t i = 0; i < len; i++) {
+        int in_given = i >= FRONT && i < FRONT + count;
+        if (all[i] != (in_given ? given[i - FRONT] : BYTE)) return 0;
     }
     return 1;
+}
+
+static int columns_are(const struct lent *l, const uint8_t *list, size_t count) {
+    return bytes_are(l->columns, sizeof l->columns, list, count);
 }
 
 /* whether so many of the first work cells are 0 and the others unchanged */
@@ -113,11 +132,63 @@ static int refuses(size_t at, uint8_t byte, uint32_t number) {
            refused(search(sheet, 60, 4, 144), number, 0);
 }
 
+/* whether two sides, with a buffer of so many bytes, return the number and leave this sheet, its length and nothing else */
+static int makes(size_t length, const uint8_t *top, size_t top_len, const uint8_t *bottom, size_t bottom_len, size_t room, uint32_t number,
+                 const uint8_t *made, size_t made_len) {
+    uint8_t sheet[FRONT + CAZDROB_SHEET_MAX + FRONT];
+    size_t written[3] = {WRITTEN, WRITTEN, WRITTEN};
+    memset(sheet, BYTE, sizeof sheet);
+    return cazdrob_modules(length, top, top_len, bottom, bottom_len, sheet + FRONT, room, &written[1]) == number &&
+           bytes_are(sheet, sizeof sheet, made, made_len) && written[1] == made_len && written[0] == WRITTEN && written[2] == WRITTEN;
+}
+
+/* the modules of TOP and BOTTOM with one byte of a side changed are refused with the number */
+static int refuses_top(size_t at, uint8_t byte, uint32_t number) {
+    uint8_t top[29];
+    memcpy(top, TOP, sizeof TOP);
+    top[at] = byte;
+    return makes(5, top, 29, BOTTOM, 13, 60, number, NULL, 0);
+}
+
+static int refuses_bottom(size_t at, uint8_t byte, uint32_t number) {
+    uint8_t bottom[13];
+    memcpy(bottom, BOTTOM, sizeof BOTTOM);
+    bottom[at] = byte;
+    return makes(5, TOP, 29, bottom, 13, 60, number, NULL, 0);
+}
+
+/* so many modules of so many pins each, in neighbouring columns and of net 1, with no left edge; gives the length of the list */
+static size_t put_modules(uint8_t *list, unsigned modules, unsigned pins) {
+    uint8_t *at = list;
+    for (unsigned m = 0; m < modules; m++) {
+        memset(at, 0, 10);
+        at[0] = at[1] = (uint8_t)pins;
+        at += 10;
+        for (unsigned pin = 1; pin <= pins; pin++) {
+            *at++ = (uint8_t)pin;
+            *at++ = 1;
+            *at++ = 0;
+        }
+    }
+    return (size_t)(at - list);
+}
+
+/* so many modules of so many pins each, on each side in turn, are refused with the number or make a sheet of this length */
+static int many(unsigned modules, unsigned pins, uint32_t number, size_t len) {
+    uint8_t list[CAZDROB_SIDE_MAX], sheet[CAZDROB_SHEET_MAX];
+    size_t list_len = put_modules(list, modules, pins), on_top = WRITTEN, at_bottom = WRITTEN;
+    return cazdrob_modules(64, list, list_len, list, 0, sheet, sizeof sheet, &on_top) == number && on_top == len &&
+           cazdrob_modules(64, list, 0, list, list_len, sheet, sizeof sheet, &at_bottom) == number && at_bottom == len;
+}
+
 int main(void) {
     static const uint8_t best[4] = {2, 3, 1, 2}, leftmost[4] = {1, 2, 1, 2}, rival[4] = {1, 2, 2, 3};
     static const uint8_t shared[4] = {2, 2, 1, 3}, zero[4] = {2, 2, 0, 1}, above[4] = {2, 65, 1, 2};
     static const uint8_t bound[6] = {1, 3, 4, 1, 4, 5}, beyond[6] = {5, 2, 3, 1, 4, 9};
-    uint8_t sheet[60];
+    static const uint8_t placed[4] = {1, 3, 5, 3}, bare[10] = {3, 0, 7, 0, 0, 0, 0, 0, 0, 0};
+    static const uint8_t nowhere[24] = {6, 0, 0, 0, 0, 0, 0, 0, 0, 0, 0, 0, 0, 0, 0, 0, 0, 0, 1, 0, 5, 0, 'C', 'P'};
+    static const uint8_t twice_trailer[12] = {0, 0, 3, 0, 36, 0, 3, 0, 5, 0, 'C', 'P'};
+    uint8_t sheet[60], top[29], wider[13], twice[84];
 
     EXPECT(cazdrob_check(A, 60) == 0);
     EXPECT(cazdrob_cells(A, 60) == 144);
@@ -194,6 +265,69 @@ int main(void) {
     EXPECT(out_of_range(1, 3, 4, 1, 8, 8, 4));
     EXPECT(out_of_range(1, 3, 3, 1, 8, 8, -1));
     EXPECT(out_of_range(1, 3, 8, 5, 1, 1, 4));
+
+    EXPECT(makes(5, TOP, 29, BOTTOM, 13, 60, 0, MADE, 60));
+    EXPECT(makes(5, TOP, 29, BOTTOM, 13, CAZDROB_SHEET_MAX, 0, MADE, 60));
+    EXPECT(found(search(MADE, 60, 4, 288), 0, placed, 4, 288));
+    EXPECT(makes(1, TOP, 0, BOTTOM, 0, 12, 0, EMPTY, 12));
+    EXPECT(many(1, 64, 0, 780));
+    EXPECT(many(2, 32, 0, 780));
+    EXPECT(many(16, 4, 0, 780));
+    /* one list for both sides */
+    memcpy(twice, MADE, 36);
+    memcpy(twice + 36, MADE, 36);
+    memcpy(twice + 72, twice_trailer, 12);
+    EXPECT(makes(5, TOP, 29, TOP, 29, 84, 0, twice, 84));
+    /* wider than the channel: the empty set passes, and leaves no placement */
+    memcpy(wider, BOTTOM, sizeof BOTTOM);
+    wider[0] = 6;
+    EXPECT(makes(5, TOP, 0, wider, 13, 24, CAZDROB_EDGE, NULL, 0));
+    wider[2] = 0;
+    EXPECT(makes(5, TOP, 0, wider, 13, 24, 0, nowhere, 24));
+    EXPECT(refused(search(nowhere, 24, 1, 72), CAZDROB_NO_ASSIGNMENT, 72));
+
+    EXPECT(makes(0, TOP, 29, BOTTOM, 13, 60, CAZDROB_LENGTH, NULL, 0));
+    EXPECT(makes(65, TOP, 29, BOTTOM, 13, 60, CAZDROB_LENGTH, NULL, 0));
+    EXPECT(makes(SIZE_MAX, TOP, 28, BOTTOM, 13, 59, CAZDROB_LENGTH, NULL, 0));
+    /* no pins */
+    EXPECT(makes(5, bare, 10, BOTTOM, 13, 60, CAZDROB_SHAPE, NULL, 0));
+    EXPECT(makes(5, TOP, 29, bare, 10, 60, CAZDROB_SHAPE, NULL, 0));
+    /* width and offsets */
+    EXPECT(refuses_top(0, 0, CAZDROB_SHAPE));
+    EXPECT(refuses_top(0, 65, CAZDROB_SHAPE));
+    EXPECT(refuses_top(10, 0, CAZDROB_SHAPE));
+    EXPECT(refuses_top(13, 1, CAZDROB_SHAPE));
+    EXPECT(refuses_top(13, 4, CAZDROB_SHAPE));
+    EXPECT(refuses_bottom(0, 0, CAZDROB_SHAPE));
+    EXPECT(refuses_bottom(0, 65, CAZDROB_SHAPE));
+    EXPECT(refuses_bottom(10, 0, CAZDROB_SHAPE));
+    EXPECT(refuses_bottom(10, 2, CAZDROB_SHAPE));
+    /* cut short: in the head and in the pins */
+    EXPECT(makes(5, TOP, 1, BOTTOM, 13, 60, CAZDROB_SHAPE, NULL, 0));
+    EXPECT(makes(5, TOP, 25, BOTTOM, 13, 60, CAZDROB_SHAPE, NULL, 0));
+    EXPECT(makes(5, TOP, 28, BOTTOM, 13, 60, CAZDROB_SHAPE, NULL, 0));
+    EXPECT(makes(5, TOP, 29, BOTTOM, 9, 60, CAZDROB_SHAPE, NULL, 0));
+    EXPECT(makes(5, TOP, 29, BOTTOM, 12, 60, CAZDROB_SHAPE, NULL, 0));
+    EXPECT(many(17, 1, CAZDROB_SHAPE, 0));
+    EXPECT(refuses_top(2, 15, CAZDROB_EDGE));
+    EXPECT(refuses_top(18, 28, CAZDROB_EDGE));
+    EXPECT(refuses_top(9, 128, CAZDROB_EDGE));
+    EXPECT(refuses_bottom(2, 63, CAZDROB_EDGE));
+    EXPECT(many(2, 33, CAZDROB_COUNT, 0));
+    EXPECT(many(13, 5, CAZDROB_COUNT, 0));
+    EXPECT(refuses_top(11, 0, CAZDROB_NET));
+    EXPECT(refuses_bottom(11, 0, CAZDROB_NET));
+    EXPECT(makes(5, TOP, 29, BOTTOM, 13, 59, CAZDROB_SHEET_BUFFER, NULL, 0));
+    EXPECT(makes(5, TOP, 29, BOTTOM, 13, 0, CAZDROB_SHEET_BUFFER, NULL, 0));
+    EXPECT(makes(1, TOP, 0, BOTTOM, 0, 11, CAZDROB_SHEET_BUFFER, NULL, 0));
+    /* several: a left edge on top and a net, a module at the bottom, too short a buffer */
+    memcpy(top, TOP, sizeof TOP);
+    top[11] = 0;
+    EXPECT(makes(5, top, 29, BOTTOM, 13, 59, CAZDROB_NET, NULL, 0));
+    top[2] = 15;
+    EXPECT(makes(5, top, 29, BOTTOM, 13, 59, CAZDROB_EDGE, NULL, 0));
+    EXPECT(makes(5, top, 29, BOTTOM, 12, 59, CAZDROB_SHAPE, NULL, 0));
+    EXPECT(makes(0, top, 29, BOTTOM, 12, 59, CAZDROB_LENGTH, NULL, 0));
 
     printf("%u passed, %u failed\n", passed, failed);
     return failed > 0;

@@ -1,5 +1,5 @@
--- Demands 1 and 2 of the C functions: what a call of `cazdrob_search` or `cazdrob_measure` returned and left, and what a call of
--- `cazdrob_distance` says.
+-- Demands 1 and 2 of the C functions: what a call of `cazdrob_search`, `cazdrob_measure` or `cazdrob_modules` returned and left, and what a
+-- call of `cazdrob_distance` says.
 -- Assumes nothing.
 use Prim.Native.Nat.{ℕ}
 use mathlib.Core.Path.{_≡_, refl}
@@ -13,7 +13,9 @@ use Rattle.search.specs.Returned.{Returned}
 use Rattle.search.proofs.Returned.{one-search}
 use Rattle.measure.specs.Returned as measure
 use Rattle.measure.proofs.Returned.{one-measurement}
-use Rattle.cazdrob.specs.Host.{HostMeasures, HostSearches}
+use Rattle.module_sheet.specs.Returned as modules
+use Rattle.module_sheet.proofs.Returned.{one-making}
+use Rattle.cazdrob.specs.Host.{HostMeasures, HostSearches, HostMakes}
 
 module _ {bytes buffer work buffer' work' : List ℕ} {density' r : ℕ} (host : HostSearches bytes buffer work buffer' work' density' r) where
   -- it kept the promise of the library's search
@@ -31,3 +33,9 @@ pub host-distance :
     {least greatest before column : ℕ} {r : ℤ} → r ≡ amount least greatest before column
     → Says least greatest before column r
 host-distance e = rw e (amount-says _ _ _ _)
+
+pub host-modules :
+    {l : ℕ} {top bottom sheet sheet' : List ℕ} {written' r : ℕ} → HostMakes l top bottom sheet sheet' written' r
+    → modules.Returned l top bottom sheet sheet' r written'
+host-modules host =
+    rw (host .number, host .written) (one-making _ _ _ _ _ _ (record { answer = refl; bytes = host .bytes; reads = host .reads }))

@@ -12,6 +12,8 @@ use Rattle.measured.specs.Numbers as measured
 use Rattle.measure.specs.Answer.{measuredOf}
 use Rattle.searched.specs.Numbers as searched
 use Rattle.search.specs.Answer.{searchedOf, columnsAfter, workAfter}
+use Rattle.made.specs.Numbers as made
+use Rattle.module_sheet.specs.Answer.{madeOf, sheetAfter, ReadsBack}
 
 -- the number of a sheet's refusal; 0 for a sound sheet
 abbrev pub checkNumber : Checked → ℕ
@@ -30,3 +32,10 @@ pub record HostSearches (bytes buffer work buffer' work' : List ℕ) (density' r
   pub density : density' ≡ searched.densityOf (searchedOf bytes (length buffer) (length work))
   pub columns : buffer' ≡ columnsAfter bytes (length work) buffer
   pub cells : work' ≡ workAfter bytes (length buffer) work
+
+-- the promise about two sides of modules: its number, the length it leaves, the sheet buffer at exit, and that the sheet reads back
+pub record HostMakes (l : ℕ) (top bottom sheet sheet' : List ℕ) (written' r : ℕ) : Type 0 where
+  pub number : r ≡ made.numberOf (madeOf l top bottom (length sheet))
+  pub written : written' ≡ made.lengthOf (madeOf l top bottom (length sheet))
+  pub bytes : sheet' ≡ sheetAfter l top bottom sheet
+  pub reads : ReadsBack l top bottom sheet' (madeOf l top bottom (length sheet))

@@ -5,7 +5,7 @@ ghost use mathlib.Core.Path.{_≡_};
 ghost use Rattle.channel.specs.Distance.{amount};
 ghost use Rattle.soundness.specs.Check.{checkOf};
 ghost use Rattle.sheet.specs.Parts.{shapeOf};
-ghost use Rattle.cazdrob.specs.Host.{checkNumber, HostMeasures, HostSearches};
+ghost use Rattle.cazdrob.specs.Host.{checkNumber, HostMeasures, HostSearches, HostMakes};
 
 // The number of the sheet's refusal; 0 for a sound sheet.
 #[no_mangle]
@@ -80,4 +80,21 @@ pub extern "C" fn cazdrob_search(
     let answer = search::search(s, columns, work);
     *density = wide(searched::density_of(answer));
     wide(searched::number_of(answer))
+}
+
+// Turns two sides of modules into the sheet of a channel of so many columns: 0 with the sheet and its length, or the number of a refusal
+// with length 0.
+#[no_mangle]
+pub extern "C" fn cazdrob_modules(
+    length: usize,
+    top: &[u8],
+    bottom: &[u8],
+    s: &mut [u8],
+    written: &mut usize,
+) -> u32
+    ensures { λ r. ⌜ HostMakes length (now (top .entry)) (now (bottom .entry)) (now (s .entry)) (now (s .exit)) (now (written .exit)) r ⌝ }
+{
+    let answer = module_sheet::make(length, top, bottom, s);
+    *written = made::length_of(answer);
+    wide(made::number_of(answer))
 }

@@ -1,7 +1,8 @@
 //! The best pin assignment of a routing channel, on the proved library `libcazdrob.a`.
 //!
 //! A sheet describes the channel: its terminals in their fixed orders, the columns that each may take, the distances that neighbours
-//! keep. `docs/FORMAT.md` of the repository has the rules. Every call has an answer for every content and length of what it is lent.
+//! keep. `docs/FORMAT.md` of the repository has the rules. [`sheet_of_modules`] makes one of standard cells and others that move whole.
+//! Every call has an answer for every content and length of what it is lent.
 //!
 //! Sheet A: three columns, the nets 1, 2 on top and 2, 1 at the bottom.
 //!
@@ -58,6 +59,16 @@ mod sys {
             work: *mut u16,
             work_len: usize,
             density: *mut u32,
+        ) -> u32;
+        pub fn cazdrob_modules(
+            length: usize,
+            top: *const u8,
+            top_len: usize,
+            bottom: *const u8,
+            bottom_len: usize,
+            sheet: *mut u8,
+            sheet_len: usize,
+            written: *mut usize,
         ) -> u32;
     }
 }
@@ -152,8 +163,96 @@ impl Searcher {
     }
 }
 
-/// Why a call was refused.
+/// Enough bytes for every sound sheet.
+pub const SHEET_MAX: usize = 1_548;
+
+/// A pin of a module.
 #[derive(Debug, Clone, Copy, PartialEq, Eq)]
+pub struct Pin {
+    /// The column of the module that it stands in, from 1, the module's first, to its width.
+    pub offset: u8,
+    /// Its net, 1 to 65,535.
+    pub net: u16,
+}
+
+/// Some columns of a side with pins in fixed places, such as a standard cell. It moves whole.
+#[derive(Debug, Clone, PartialEq, Eq)]
+pub struct Module {
+    /// The number of its columns, 1 to 64.
+    pub width: u8,
+    /// The columns that its left edge may stand in: bit 0 is column 1, bit 63 is column 64.
+    pub edges: u64,
+    /// Its pins by rising offset, one at the least.
+    pub pins: Vec<Pin>,
+}
+
+/// The sheet of two sides of modules, each from left to right, on a channel of `length` columns. Refused with 3, 16, 17, 4 or 6, and of
+/// several with the first in this order.
+///
+/// The sheet's assignments are the placements without overlap, one to one: where a module's left edge is in column e, its pin with offset
+/// o is in column e + o - 1.
+///
+/// ```
+/// use cazdrob::{Module, Pin};
+///
+/// // eight columns: a gate and an inverter over a flip-flop, which may begin in column 2 or 4
+/// let pin = |offset, net| Pin { offset, net };
+/// let nand = Module { width: 3, edges: 0b11_1111, pins: vec![pin(1, 10), pin(2, 11), pin(3, 12)] };
+/// let inverter = Module { width: 2, edges: 0b111_1111, pins: vec![pin(1, 12), pin(2, 13)] };
+/// let flip_flop = Module { width: 5, edges: 0b1010, pins: vec![pin(2, 10), pin(5, 13)] };
+/// let sheet = cazdrob::sheet_of_modules(8, &[nand, inverter], &[flip_flop])?;
+/// assert_eq!(sheet.len(), 7 * 12 + 12);
+/// let best = cazdrob::Searcher::new().assign(&sheet)?;
+/// assert_eq!(best.density, 1);
+/// assert_eq!(best.columns, [2, 3, 4, 5, 6, 3, 6]); // left edges 2 and 5 on top, 2 at the bottom
+/// # Ok::<(), cazdrob::Refusal>(())
+/// ```
+pub fn sheet_of_modules(length: usize, top: &[Module], bottom: &[Module]) -> Result<Vec<u8>, Refusal> {
+    let mut sheet = vec![0; SHEET_MAX];
+    let written = modules(length, &side(top), &side(bottom), &mut sheet)?;
+    sheet.truncate(written);
+    Ok(sheet)
+}
+
+/// The modules of a side as the list of bytes that [`modules`] takes.
+///
+/// A list has no way to spell a module with more than 255 pins. Such a module is refused with 16 in any case; it is spelt without its pins,
+/// which is refused with 16 too.
+pub fn side(modules: &[Module]) -> Vec<u8> {
+    let mut list = Vec::new();
+    for Module { width, edges, pins } in modules {
+        let (count, pins) = u8::try_from(pins.len()).map_or((0, &[][..]), |count| (count, pins));
+        list.extend([*width, count]);
+        list.extend(edges.to_le_bytes());
+        for Pin { offset, net } in pins {
+            list.push(*offset);
+            list.extend(net.to_le_bytes());
+        }
+    }
+    list
+}
+
+/// As [`sheet_of_modules`], from a list of bytes for each [`side`] and into a lent buffer: gives the length of the sheet, 12(p+q)+12 with p
+/// pins on top and q at the bottom. Refused with 3, 16, 17, 4, 6 or 9, and of several with the first in this order.
+///
+/// The sheet is the first bytes of the buffer. Everything else, and with a refusal the whole of it, is left as it was.
+pub fn modules(length: usize, top: &[u8], bottom: &[u8], sheet: &mut [u8]) -> Result<usize, Refusal> {
+    let mut written = 0;
+    // SAFETY: the pointers and lengths are those of slices; `sheet` and `written` are borrowed mutably and overlap nothing.
+    let number = unsafe {
+        sys::cazdrob_modules(length, top.as_ptr(), top.len(), bottom.as_ptr(), bottom.len(), sheet.as_mut_ptr(), sheet.len(), &mut written)
+    };
+    match answer(number, 0) {
+        Ok(()) => Ok(written),
+        // there is no column buffer here
+        Err(Refusal::Columns) => Err(Refusal::SheetBuffer),
+        Err(refusal) => Err(refusal),
+    }
+}
+
+/// Why a call was refused. Later versions may have more.
+#[derive(Debug, Clone, Copy, PartialEq, Eq)]
+#[non_exhaustive]
 pub enum Refusal {
     /// 1: the sheet is shorter than 12 bytes.
     Short,
@@ -171,7 +270,7 @@ pub enum Refusal {
     Distance,
     /// 8: a set names a column above L.
     Beyond,
-    /// 9: the column buffer is too short.
+    /// 9 of a search: the column buffer is too short.
     Columns,
     /// 10: the work buffer is too short.
     Cells,
@@ -186,10 +285,17 @@ pub enum Refusal {
         /// The [`distance`] of the first such pair: negative, so many columns too close; positive, so many too far apart.
         amount: i32,
     },
+    /// 9 of modules: the sheet buffer is too short.
+    SheetBuffer,
+    /// 16: a module has no pins, a width outside 1 to 64, offsets that do not rise within it or bytes past the list's end, or a side has
+    /// more than 16 modules.
+    Shape,
+    /// 17: a module's set names a left edge from which it does not fit the channel.
+    Edge,
 }
 
 impl Refusal {
-    /// The number of the refusal, 1 to 14.
+    /// The number of the refusal, 1 to 14, 16 or 17.
     pub fn number(self) -> u32 {
         match self {
             Refusal::Short => 1,
@@ -206,6 +312,9 @@ impl Refusal {
             Refusal::ListLength => 12,
             Refusal::NotAllowed => 13,
             Refusal::OutOfRange { .. } => 14,
+            Refusal::SheetBuffer => 9,
+            Refusal::Shape => 16,
+            Refusal::Edge => 17,
         }
     }
 }
@@ -227,6 +336,9 @@ impl fmt::Display for Refusal {
             Refusal::ListLength => "the list to measure is not p+q long",
             Refusal::NotAllowed => "a listed column is not in its terminal's set",
             Refusal::OutOfRange { .. } => "a distance is out of range",
+            Refusal::SheetBuffer => "the sheet buffer is too short",
+            Refusal::Shape => "a module breaks its rule, or a side has more than 16 of them",
+            Refusal::Edge => "a set names a left edge from which its module does not fit the channel",
         };
         write!(f, "refused {}: {why}", self.number())?;
         if let Refusal::OutOfRange { amount } = self {
@@ -241,7 +353,8 @@ impl fmt::Display for Refusal {
 
 impl Error for Refusal {}
 
-/// A returned number as a result, with the amount that came beside it: 0 from a call that has none, as none of those returns 14.
+/// A returned number as a result, with the amount that came beside it: 0 from a call that has none, as none of those returns 14. 9 is a
+/// search's.
 fn answer(number: u32, amount: i32) -> Result<(), Refusal> {
     Err(match number {
         0 => return Ok(()),
@@ -259,7 +372,9 @@ fn answer(number: u32, amount: i32) -> Result<(), Refusal> {
         12 => Refusal::ListLength,
         13 => Refusal::NotAllowed,
         14 => Refusal::OutOfRange { amount },
-        _ => unreachable!("the library returns 0 to 14, not {number}"),
+        16 => Refusal::Shape,
+        17 => Refusal::Edge,
+        _ => unreachable!("the library returns 0 to 14, 16 or 17, not {number}"),
     })
 }
 

@@ -1,5 +1,6 @@
-//! Drawn numbers and sheets; the same seed draws the same.
+//! Drawn numbers, sheets and modules; the same seed draws the same.
 use crate::reference::{Channel, Terminal};
+use cazdrob::{Module, Pin};
 
 /// SplitMix64.
 pub struct Draw(u64);
@@ -116,6 +117,24 @@ pub fn channel_up_to(draw: &mut Draw, length: usize, p: usize, q: usize) -> (Cha
     };
     let (p, q) = (count(p), count(q));
     channel(draw, length, p, q)
+}
+
+/// A drawn module that nothing is wrong with on a channel of this length. One that is wider than the channel has the empty set.
+pub fn module(draw: &mut Draw, length: usize, width: usize, pins: usize) -> Module {
+    let pins = rising(draw, width, pins).into_iter().map(|offset| Pin { offset, net: net(draw) }).collect();
+    let edges = if width > length { 0 } else { set(draw, Sets::Mixed, length - width + 1, None) };
+    Module { width: width as u8, edges, pins }
+}
+
+/// So many drawn modules up to so wide, most of them with few pins.
+pub fn modules(draw: &mut Draw, length: usize, count: usize, widest: usize) -> Vec<Module> {
+    let one = |_| {
+        let width = draw.between(1, widest);
+        let most = if draw.once_in(12) { width } else { width.min(3) };
+        let pins = draw.between(1, most);
+        module(draw, length, width, pins)
+    };
+    (0..count).map(one).collect()
 }
 
 /// Any net but 0, often one whose bytes are 0 or 255, or one of few.

@@ -28,14 +28,14 @@ extern "C" {
 
 /// Elements to lend, with others in front of them and behind them.
 #[derive(Clone)]
-struct Lent<T> {
+pub struct Lent<T> {
     all: Vec<T>,
     front: usize,
     len: usize,
 }
 
 impl<T: Copy + PartialEq + std::fmt::Debug> Lent<T> {
-    fn around(draw: &mut Draw, elements: &[T], garbage: fn(u64) -> T) -> Self {
+    pub fn around(draw: &mut Draw, elements: &[T], garbage: fn(u64) -> T) -> Self {
         let (front, back) = (draw.between(1, 24), draw.between(1, 24));
         let mut all: Vec<T> = (0..front).map(|_| garbage(draw.word())).collect();
         all.extend(elements);
@@ -43,17 +43,17 @@ impl<T: Copy + PartialEq + std::fmt::Debug> Lent<T> {
         Lent { all, front, len: elements.len() }
     }
 
-    fn garbage(draw: &mut Draw, len: usize, garbage: fn(u64) -> T) -> Self {
+    pub fn garbage(draw: &mut Draw, len: usize, garbage: fn(u64) -> T) -> Self {
         let elements: Vec<T> = (0..len).map(|_| garbage(draw.word())).collect();
         Self::around(draw, &elements, garbage)
     }
 
-    fn lend(&mut self) -> &mut [T] {
+    pub fn lend(&mut self) -> &mut [T] {
         &mut self.all[self.front..self.front + self.len]
     }
 
     /// Holds the whole to what it was before, but for its first lent elements, which are now these.
-    fn hold(&self, before: &Self, first: impl ExactSizeIterator<Item = T>, what: &str) {
+    pub fn hold(&self, before: &Self, first: impl ExactSizeIterator<Item = T>, what: &str) {
         let end = self.front + first.len();
         assert!(self.all[self.front..end].iter().copied().eq(first), "{what}: the first elements");
         assert!(self.all[..self.front] == before.all[..self.front], "{what}: in front of the buffer");

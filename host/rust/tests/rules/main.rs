@@ -1,5 +1,6 @@
-//! Holds every call of the library to a separately written implementation of the rules, `reference`, on drawn sheets: sound and damaged,
-//! small and large, with every buffer lent out of the middle of a longer one full of garbage. The draws are fixed by their seeds.
+//! Holds every call of the library to a separately written implementation of the rules, `reference` and, for modules, `sides`, on drawn
+//! sheets and sides: sound and damaged, small and large, with every buffer lent out of the middle of a longer one full of garbage. The
+//! draws are fixed by their seeds.
 mod buffers;
 mod damaged;
 mod distances;
@@ -7,8 +8,11 @@ mod draw;
 mod known;
 mod lent;
 mod lists;
+mod modules;
 mod pairs;
+mod placements;
 mod reference;
+mod sides;
 mod sound;
 mod threads;
 mod wrapper;
