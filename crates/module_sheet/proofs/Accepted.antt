@@ -25,7 +25,7 @@ pub record Accepted (l : ℕ) (top bottom : List Module) (room : ℕ) : Type 0 w
   pub answer : answerIn l top bottom room ≡ Written (sheetSize (pinCount top) (pinCount bottom))
   pub columns : (1 ≤ l) × (l ≤ 64)
   pub shapes : (every shaped? top ≡ true) × (every shaped? bottom ≡ true)
-  pub within : (every (λ (m : Module). within? l m) top ≡ true) × (every (λ (m : Module). within? l m) bottom ≡ true)
+  pub within : (every (within? l) top ≡ true) × (every (within? l) bottom ≡ true)
   pub counts : (pinCount top ≤ 64) × (pinCount bottom ≤ 64)
   pub named : (every named? top ≡ true) × (every named? bottom ≡ true)
   pub size : sheetSize (pinCount top) (pinCount bottom) ≤ room
@@ -65,11 +65,11 @@ accepted l top bottom room h =
 
 -- modules that 16 and 17 leave can be written
 pub all-writable :
-    (l : ℕ) → l ≤ 64 → (ms : List Module) → every shaped? ms ≡ true → every (λ (m : Module). within? l m) ms ≡ true → AllWritable ms
+    (l : ℕ) → l ≤ 64 → (ms : List Module) → every shaped? ms ≡ true → every (within? l) ms ≡ true → AllWritable ms
 all-writable l short [] h e = tt
 all-writable l short (m ∷ ms) h e =
     let (one, rest) = and-eq-true-iff (shaped? m) (every shaped? ms) .0 h in
-    let (inside, others) = and-eq-true-iff (within? l m) (every (λ (m : Module). within? l m) ms) .0 e in
+    let (inside, others) = and-eq-true-iff (within? l m) (every (within? l) ms) .0 e in
     let (some, wide) = shapes m one .width in
     let moved = moved-fits l (m .width) (m .edges) (m .width) some (omega arith) (not-true _ inside) in
     (((wide, lt-of-lt-of-le moved (pow-mono {j = 64} short)), one), all-writable l short ms rest others)

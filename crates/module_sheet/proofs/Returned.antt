@@ -50,7 +50,7 @@ module _ (l : ℕ) (top bottom sheet sheet' : List ℕ) (r : Made) (makes : Make
   shaped = allShaped? tops && allShaped? bottoms
 
   abbrev within : Bool
-  within = every (λ (m : Module). within? l m) tops && every (λ (m : Module). within? l m) bottoms
+  within = every (within? l) tops && every (within? l) bottoms
 
   abbrev few : Bool
   few = leb (pinCount tops) 64 && leb (pinCount bottoms) 64
@@ -129,7 +129,8 @@ module _ (l : ℕ) (top bottom sheet sheet' : List ℕ) (r : Made) (makes : Make
             to9 = to6 ∙ holds named (Unsound Net) from9 (rw (names .0, names .1))
 
             short : length sheet < size → Refuses 9 (numberOf r) (lengthOf r) sheet sheet'
-            short h = refuses SheetBuffer (to9 ∙ fails (leb size (length sheet)) SheetBuffer (Written size) (lt-leb _ _ h)) refl (λ b o. refl)
+            short h =
+                refuses SheetBuffer (to9 ∙ fails (leb size (length sheet)) SheetBuffer (Written size) (lt-leb _ _ h)) refl (λ b o. refl)
 
             gives : size ≤ length sheet → Gives l tops bottoms (numberOf r) (lengthOf r) sheet sheet'
             unfolding sheetAfter
@@ -152,7 +153,7 @@ module _ (l : ℕ) (top bottom sheet sheet' : List ℕ) (r : Made) (makes : Make
                       sheet-matches l tops bottoms (inside .1) (side tops (shapes .0) (edges .0)) (side bottoms (shapes .1) (edges .1));
                 }
               where
-                side : (ms : List Module) → allShaped? ms ≡ true → every (λ (m : Module). within? l m) ms ≡ true → SoundModules l ms
+                side : (ms : List Module) → allShaped? ms ≡ true → every (within? l) ms ≡ true → SoundModules l ms
                 side ms s e = sound-modules l ms (and-eq-true-iff (every shaped? ms) (leb (length ms) 16) .0 s .0) e
 
   pub one-making : Returned l top bottom sheet sheet' (numberOf r) (lengthOf r)

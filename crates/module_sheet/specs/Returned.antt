@@ -31,7 +31,7 @@ Shapes top bottom = (allShaped? top ≡ true) × (allShaped? bottom ≡ true)
 
 abbrev pub Within : ℕ → List Module → List Module → Type 0
 Within l top bottom =
-    (every (λ (m : Module). within? l m) top ≡ true) × (every (λ (m : Module). within? l m) bottom ≡ true)
+    (every (within? l) top ≡ true) × (every (within? l) bottom ≡ true)
 
 abbrev pub Counts : List Module → List Module → Type 0
 Counts top bottom = (pinCount top ≤ 64) × (pinCount bottom ≤ 64)

@@ -18,7 +18,7 @@ moduleTests l m = record { pins = length (m .pins); shaped = shaped? m; within =
 -- of modules, however many
 abbrev pub allTests : ℕ → List Module → Tests
 allTests l ms =
-    record { pins = pinCount ms; shaped = every shaped? ms; within = every (λ (m : Module). within? l m) ms; named = every named? ms }
+    record { pins = pinCount ms; shaped = every shaped? ms; within = every (within? l) ms; named = every named? ms }
 
 -- of some modules and others
 abbrev pub joined : Tests → Tests → Tests
@@ -33,4 +33,4 @@ joined t u =
 -- of a side of modules in a channel of l columns
 abbrev pub testsOf : ℕ → List Module → Tests
 testsOf l ms =
-    record { pins = pinCount ms; shaped = allShaped? ms; within = every (λ (m : Module). within? l m) ms; named = every named? ms }
+    record { pins = pinCount ms; shaped = allShaped? ms; within = every (within? l) ms; named = every named? ms }

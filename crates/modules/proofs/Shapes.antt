@@ -67,9 +67,9 @@ SoundModules l [] = Unit {0}
 SoundModules l (m ∷ ms) = SoundModule l m × SoundModules l ms
 
 pub sound-modules :
-    (l : ℕ) (ms : List Module) → every shaped? ms ≡ true → every (λ (m : Module). within? l m) ms ≡ true → SoundModules l ms
+    (l : ℕ) (ms : List Module) → every shaped? ms ≡ true → every (within? l) ms ≡ true → SoundModules l ms
 sound-modules l [] h e = tt
 sound-modules l (m ∷ ms) h e =
     let (h₁, h₂) = and-eq-true-iff (shaped? m) (every shaped? ms) .0 h in
-    let (e₁, e₂) = and-eq-true-iff (within? l m) (every (λ (m : Module). within? l m) ms) .0 e in
+    let (e₁, e₂) = and-eq-true-iff (within? l m) (every (within? l) ms) .0 e in
     (record { shape = shapes m h₁; edges = not-true _ e₁ }, sound-modules l ms h₂ e₂)
