@@ -50,12 +50,12 @@ length-later edges before b i n =
 -- a module: some pins, behind one that would stand at 0
 pub module-pins :
     (b : List ℕ) (h : Head) → Writable (moduleOf b h)
-    → (1 ≤ h .count) × Later (h .width) (h .edges) 0 (pinsFrom b (h .first) (h .count))
+    → (1 ≤ h .count) × Later (h .width) (h .edges) 0 (pinsFrom b (h .start) (h .count))
 module-pins b h (room, shaped) =
     let (_, some) = and-eq-true-iff (leb 1 (h .width) && leb (h .width) 64) _ .0 shaped in
     let (count, rising) =
-    and-eq-true-iff (leb 1 (length (pinsFrom b (h .first) (h .count)))) (rising? (h .width) 0 (pinsFrom b (h .first) (h .count))) .0 some in
-    (omega (arith, leb-true 1 (length (pinsFrom b (h .first) (h .count))) count, length-pins b (h .first) (h .count)), (room, rising))
+    and-eq-true-iff (leb 1 (length (pinsFrom b (h .start) (h .count)))) (rising? (h .width) 0 (pinsFrom b (h .start) (h .count))) .0 some in
+    (omega (arith, leb-true 1 (length (pinsFrom b (h .start) (h .count))) count, length-pins b (h .start) (h .count)), (room, rising))
 
 -- the last of some pins stands just before their end
 pub last-pin :

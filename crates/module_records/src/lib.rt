@@ -13,7 +13,7 @@ ghost use Rattle.text.specs.Writing.{Wrote};
 ghost use Rattle.terminal.specs.Terminal.{recordOf};
 ghost use Rattle.format.specs.Format.{recordSize};
 ghost use Rattle.encode.specs.Encode.{sectionBytes};
-ghost use Rattle.modules.specs.Modules.{pinCount, spare, pinTerminal, innerTerminals, moduleTerminals, sideTerminals};
+ghost use Rattle.modules.specs.Modules.{pinCount, gapOf, pinTerminal, innerTerminals, moduleTerminals, sideTerminals};
 ghost use Rattle.modules.specs.Modules.{firstLeast, firstGreatest};
 ghost use Rattle.modules.specs.Bytes.{pinSize, pinsFrom, moduleOf, modulesIn};
 ghost use Rattle.module_records.specs.Writable.{Later, Writable, AllWritable};
@@ -33,15 +33,15 @@ fn record_of(pin: Pin, edges: u64, least: u8, greatest: u8) -> Record
 
 // The records of a module's pins behind the first: each at its distance from the one before.
 fn put_inner(out: &mut [u8], at: usize, side: &[u8], head: Head, before: u8) -> usize
-    requires { ⌜ (1 ≤ head .count) × (head .first + pinSize * head .count ≤ length (now side))
+    requires { ⌜ (1 ≤ head .count) × (head .start + pinSize * head .count ≤ length (now side))
         × (at + recordSize * (head .count - 1) ≤ length (now out))
-        × Later (head .width) (head .edges) before (pinsFrom (now side) (head .first + pinSize) (head .count - 1)) ⌝ }
+        × Later (head .width) (head .edges) before (pinsFrom (now side) (head .start + pinSize) (head .count - 1)) ⌝ }
     ensures { λ r. ⌜ Wrote (now (out .entry)) at
-        (sectionBytes (innerTerminals (head .edges) before (pinsFrom (now (side .entry)) (head .first + pinSize) (head .count - 1))))
+        (sectionBytes (innerTerminals (head .edges) before (pinsFrom (now (side .entry)) (head .start + pinSize) (head .count - 1))))
         (now (out .exit)) r ⌝ }
 {
     let mut end = at;
-    let mut place = head.first + PIN;
+    let mut place = head.start + PIN;
     let mut left = head.count - 1;
     let mut last = before;
     while 0 < left {
@@ -71,23 +71,23 @@ fn first_greatest(first: bool) -> u8
 
 // The records of one module.
 fn put_module(out: &mut [u8], at: usize, side: &[u8], head: Head, first: bool, gap: u8) -> usize
-    requires { ⌜ Writable (moduleOf (now side) head) × (gap ≤ 64) × (head .first + pinSize * head .count ≤ length (now side))
+    requires { ⌜ Writable (moduleOf (now side) head) × (gap ≤ 64) × (head .start + pinSize * head .count ≤ length (now side))
         × (at + recordSize * head .count ≤ length (now out)) ⌝ }
     ensures { λ r. ⌜ Wrote (now (out .entry)) at (sectionBytes (moduleTerminals first gap (moduleOf (now (side .entry)) head)))
         (now (out .exit)) r ⌝ }
 {
-    let pin = pin_at(side, head.first);
+    let pin = pin_at(side, head.start);
     let least = first_least(first, gap, pin.offset);
     let greatest = first_greatest(first);
     let end = put_record(out, at, record_of(pin, head.edges, least, greatest));
     put_inner(out, end, side, head, pin.offset)
 }
 
-// The columns of a module right of its last pin.
-fn spare_of(side: &[u8], head: Head) -> u8
-    requires { ⌜ Writable (moduleOf (now side) head) × (head .first + pinSize * head .count ≤ length (now side))
-        × (head .end ≡ head .first + pinSize * head .count) ⌝ }
-    ensures { λ r. ⌜ r ≡ spare (moduleOf (now (side .entry)) head) ⌝ }
+// The gap that a module leaves right of its last pin.
+fn gap_of(side: &[u8], head: Head) -> u8
+    requires { ⌜ Writable (moduleOf (now side) head) × (head .start + pinSize * head .count ≤ length (now side))
+        × (head .end ≡ head .start + pinSize * head .count) ⌝ }
+    ensures { λ r. ⌜ r ≡ gapOf (moduleOf (now (side .entry)) head) ⌝ }
 {
     let last = pin_at(side, head.end - PIN);
     head.width - last.offset
@@ -105,7 +105,7 @@ pub fn put_side(out: &mut [u8], at: usize, side: &[u8]) -> usize
     while place < side.len() {
         let head = head_in(side, place);
         end = put_module(out, end, side, head, first, gap);
-        gap = spare_of(side, head);
+        gap = gap_of(side, head);
         first = false;
         place = head.end;
     }

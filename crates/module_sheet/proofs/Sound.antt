@@ -15,7 +15,7 @@ use Rattle.channel.proofs.Sides.{Each}
 use Rattle.little.specs.Little.{little}
 use Rattle.encode.specs.Encode.{EncodableTerminal, EncodableSide, Encodable}
 use Rattle.modules.specs.declared.Pin.{Pin}
-use Rattle.modules.specs.Modules.{Module, pinCount, firstOffset, spare, pinTerminal, innerTerminals, pinTerminals}
+use Rattle.modules.specs.Modules.{Module, pinCount, firstOffset, gapOf, pinTerminal, innerTerminals, pinTerminals}
 use Rattle.modules.specs.Modules.{firstLeast, firstGreatest, terminalsBehind, sideTerminals, moduleSheet, every, pinsNamed?, named?}
 use Rattle.modules.specs.Bytes.{pinSize, pinAt, pinsFrom, headIn, moduleOf, modulesFrom, modulesAt, modulesIn}
 use Rattle.modules.proofs.Moved.{moved-fits}
@@ -101,8 +101,8 @@ behind-good l short isFirst gap (m ∷ ms) h s n f =
     let (_, wide) = s .0 .shape .width in
     let (named, rest) = and-eq-true-iff (named? m) (every named? ms) .0 n in
     let (range, lo, hi) = first-pair isFirst (m .edges) gap (firstOffset (m .pins)) h one (omega arith) in
-    pins-good l (m .width) (m .edges) short (s .0 .edges) wide (terminalsBehind false (spare m) ms)
-    (behind-good l short false (spare m) ms (omega arith) (s .1) rest (f .1)) isFirst _ _ (m .pins) (s .0 .shape .some)
+    pins-good l (m .width) (m .edges) short (s .0 .edges) wide (terminalsBehind false (gapOf m) ms)
+    (behind-good l short false (gapOf m) ms (omega arith) (s .1) rest (f .1)) isFirst _ _ (m .pins) (s .0 .shape .some)
     (s .0 .shape .rising) named (f .0) range lo hi
 
 -- both sides, within their limits
@@ -137,7 +137,7 @@ module _ (b : List ℕ) (below : (i : ℕ) → getD b i 0 < 256) where
   modules-fit zero i = tt
   modules-fit (suc n) i =
       by-end (moduleOf b (headIn b i)) (modulesFrom n b (headIn b i .end)) (leb (length b) i)
-      (pins-fit (headIn b i .count) (headIn b i .first)) (modules-fit n (headIn b i .end))
+      (pins-fit (headIn b i .count) (headIn b i .start)) (modules-fit n (headIn b i .end))
     where
       by-end : (m : Module) (ms : List Module) (t : Bool) → NetsFit (m .pins) → ModulesFit ms → ModulesFit (cond t [] (m ∷ ms))
       by-end m ms true f g = tt

@@ -33,10 +33,10 @@ fn both(a: bool, b: bool) -> bool
 
 // Whether the offsets of a module's pins rise within its width, and whether all its nets are named.
 fn test_pins(side: &[u8], head: Head) -> PinTests
-    requires { ⌜ head .first + pinSize * head .count ≤ length (now side) ⌝ }
+    requires { ⌜ head .start + pinSize * head .count ≤ length (now side) ⌝ }
     ensures { λ r. ⌜ r ≡ pinTestsOf (moduleOf (now (side .entry)) head) ⌝ }
 {
-    let mut at = head.first;
+    let mut at = head.start;
     let mut left = head.count;
     let mut before = 0u8;
     let mut rising = true;
@@ -69,7 +69,7 @@ fn last_edge(columns: usize, width: usize) -> usize
 
 // The tests of one module.
 fn test_module(side: &[u8], head: Head, columns: usize) -> Tests
-    requires { ⌜ (columns ≤ 64) × (head .first + pinSize * head .count ≤ length (now side)) ⌝ }
+    requires { ⌜ (columns ≤ 64) × (head .start + pinSize * head .count ≤ length (now side)) ⌝ }
     ensures { λ r. ⌜ r ≡ moduleTests columns (moduleOf (now (side .entry)) head) ⌝ }
 {
     let pins = test_pins(side, head);

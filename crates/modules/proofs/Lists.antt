@@ -33,8 +33,8 @@ head-cut b i h = rw (lt-leb (endAt b i) (length b) h)
 -- where the module at a place in the list lies: its pins stand at or behind the place, are in the list and end the module, and the next
 -- place is behind it
 pub record Lies (b : List ℕ) (i : ℕ) (h : Head) : Type 0 where
-  pub start : i ≤ h .first
-  pub pins : h .first + pinSize * h .count ≡ h .end
+  pub start : i ≤ h .start
+  pub pins : h .start + pinSize * h .count ≡ h .end
   pub inside : h .end ≤ length b
   pub behind : i < h .end
 

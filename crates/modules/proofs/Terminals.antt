@@ -7,7 +7,7 @@ use mathlib.Core.Bool.{Bool, false}
 use native.Mathlib.Omega.{arith}
 use lib.ListN.{length, length-append}
 use Rattle.modules.specs.declared.Pin.{Pin}
-use Rattle.modules.specs.Modules.{Module, pinCount, spare, innerTerminals, pinTerminals, moduleTerminals, terminalsBehind}
+use Rattle.modules.specs.Modules.{Module, pinCount, gapOf, innerTerminals, pinTerminals, moduleTerminals, terminalsBehind}
 use Rattle.modules.specs.Modules.{sideTerminals}
 
 pub length-inner : (edges before : ℕ) (ps : List Pin) → length (innerTerminals edges before ps) ≡ length ps
@@ -22,8 +22,8 @@ pub length-behind : (isFirst : Bool) (gap : ℕ) (ms : List Module) → length (
 length-behind isFirst gap [] = refl
 length-behind isFirst gap (m ∷ ms) =
     let pins : length (moduleTerminals isFirst gap m) ≡ length (m .pins) = length-pins _ _ _ (m .pins) in
-    let rest : length (terminalsBehind false (spare m) ms) ≡ pinCount ms = length-behind false (spare m) ms in
-    length-append (moduleTerminals isFirst gap m) (terminalsBehind false (spare m) ms) ∙ omega arith
+    let rest : length (terminalsBehind false (gapOf m) ms) ≡ pinCount ms = length-behind false (gapOf m) ms in
+    length-append (moduleTerminals isFirst gap m) (terminalsBehind false (gapOf m) ms) ∙ omega arith
 
 pub length-terminals : (ms : List Module) → length (sideTerminals ms) ≡ pinCount ms
 length-terminals ms = length-behind _ 0 ms

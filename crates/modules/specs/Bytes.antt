@@ -35,20 +35,20 @@ headAt b i =
       width = getD b i 0;
       edges = little 8 b (i + 2);
       count = getD b (i + 1) 0;
-      first = i + headSize;
+      start = i + headSize;
       end = endAt b i;
     }
 
 -- a module that runs past the list's end, n bytes long, has no width and no pins
 abbrev pub cutHead : ℕ → Head
-cutHead n = record { width = 0; edges = 0; count = 0; first = n; end = n }
+cutHead n = record { width = 0; edges = 0; count = 0; start = n; end = n }
 
 unfoldable pub headIn : List ℕ → ℕ → Head
 headIn b i = cond (leb (endAt b i) (length b)) (headAt b i) (cutHead (length b))
 
 -- the module of a head
 abbrev pub moduleOf : List ℕ → Head → Module
-moduleOf b h = record { width = h .width; edges = h .edges; pins = pinsFrom b (h .first) (h .count) }
+moduleOf b h = record { width = h .width; edges = h .edges; pins = pinsFrom b (h .start) (h .count) }
 
 -- at most n modules from i on: the list's end ends the side
 abbrev pub modulesFrom : ℕ → List ℕ → ℕ → List Module

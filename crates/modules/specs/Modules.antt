@@ -28,9 +28,9 @@ abbrev pub lastOffset : ℕ → List Pin → ℕ
 lastOffset before [] = before
 lastOffset before (p ∷ ps) = lastOffset (p .offset) ps
 
--- "width − last offset": the columns of a module right of its last pin
-abbrev pub spare : Module → ℕ
-spare m = m .width - lastOffset 0 (m .pins)
+-- "width − last offset": the gap that a module leaves right of its last pin
+abbrev pub gapOf : Module → ℕ
+gapOf m = m .width - lastOffset 0 (m .pins)
 
 -- "each pin brings its net and gets that set moved right by its offset less 1"
 abbrev pub pinTerminal : ℕ → ℕ → ℕ → Pin → Terminal
@@ -65,7 +65,7 @@ moduleTerminals isFirst gap m =
 -- the modules behind one that left this gap, or the first of a side
 abbrev pub terminalsBehind : Bool → ℕ → List Module → List Terminal
 terminalsBehind isFirst gap [] = []
-terminalsBehind isFirst gap (m ∷ ms) = moduleTerminals isFirst gap m ++ terminalsBehind false (spare m) ms
+terminalsBehind isFirst gap (m ∷ ms) = moduleTerminals isFirst gap m ++ terminalsBehind false (gapOf m) ms
 
 -- the terminals of a side of modules
 abbrev pub sideTerminals : List Module → List Terminal

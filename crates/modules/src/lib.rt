@@ -12,13 +12,13 @@ pub struct Pin {
     pub net: u16,
 }
 
-// What stands before a module's pins: its width, its set of allowed left edges and the number of its pins; and where the first pin stands
-// and the module ends.
+// What stands before a module's pins: its width, its set of allowed left edges and the number of its pins; and where the pins start and
+// the module ends.
 pub struct Head {
     pub width: u8,
     pub edges: u64,
     pub count: usize,
-    pub first: usize,
+    pub start: usize,
     pub end: usize,
 }
 
@@ -54,7 +54,7 @@ pub fn head_in(side: &[u8], at: usize) -> Head
         width: side[at],
         edges: read_number(side, at + 2, 8),
         count,
-        first: at + HEAD,
+        start: at + HEAD,
         end: at + HEAD + PIN * count,
     }
 }
@@ -66,7 +66,7 @@ fn cut(len: usize) -> Head
         width: 0,
         edges: 0,
         count: 0,
-        first: len,
+        start: len,
         end: len,
     }
 }

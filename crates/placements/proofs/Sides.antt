@@ -13,7 +13,7 @@ use Rattle.channel.specs.Sheet.{Terminal}
 use Rattle.channel.specs.Assignment.{allows, laterFit, sideFits}
 use Rattle.channel.proofs.Assignments.{later-parts}
 use Rattle.modules.specs.declared.Pin.{Pin}
-use Rattle.modules.specs.Modules.{Module, firstOffset, lastOffset, spare, pinTerminal, innerTerminals, pinTerminals}
+use Rattle.modules.specs.Modules.{Module, firstOffset, lastOffset, gapOf, pinTerminal, innerTerminals, pinTerminals}
 use Rattle.modules.specs.Modules.{firstLeast, firstGreatest, terminalsBehind, sideTerminals}
 use Rattle.modules.proofs.Moved.{allowed-column, moved-edge, edge-moved}
 use Rattle.modules.proofs.Shapes.{Rising, offsets, SoundModules}
@@ -157,9 +157,9 @@ module _ (l : ℕ) (short : l ≤ 64) where
       let (one, high) = allowed-column (l + 1 - m .width) (m .edges) e a (s .0 .edges) in
       let (o, ol, lw) = offsets m (s .0 .shape) in
       let (_, wide) = s .0 .shape .width in
-      pins-fit (m .edges) e (m .width) a one (terminalsBehind false (spare m) ms) (columnsOf ms es) isFirst gap before (m .pins)
+      pins-fit (m .edges) e (m .width) a one (terminalsBehind false (gapOf m) ms) (columnsOf ms es) isFirst gap before (m .pins)
       (s .0 .shape .some) (s .0 .shape .rising) start (omega arith)
-      (placed-fits false (spare m) (e + lastOffset 0 (m .pins) - 1) ms es (s .1)
+      (placed-fits false (gapOf m) (e + lastOffset 0 (m .pins) - 1) ms es (s .1)
       (ap (λ (k : ℕ). placedFrom k ms es) (next-start (m .width) (lastOffset 0 (m .pins)) e one lw) ∙ f))
 
   edges-back :
@@ -186,11 +186,11 @@ module _ (l : ℕ) (short : l ≤ 64) where
       let last : ℕ = lastOffset 0 (m .pins) in
       let rest = drop (length (m .pins)) cs in
       let there =
-      pins-back (m .edges) (m .width) (terminalsBehind false (spare m) ms) isFirst gap before (m .pins) cs (s .0 .shape .some)
+      pins-back (m .edges) (m .width) (terminalsBehind false (gapOf m) ms) isFirst gap before (m .pins) cs (s .0 .shape .some)
       (s .0 .shape .rising) h in
       let (one, high) = allowed-column (l + 1 - m .width) (m .edges) e (there .allowed) (s .0 .edges) in
       let (o, ol, lw) = offsets m (s .0 .shape) in
-      let (placed, columns) = fits-placed false (spare m) (e + last - 1) ms rest (s .1) (there .behind) in (
+      let (placed, columns) = fits-placed false (gapOf m) (e + last - 1) ms rest (s .1) (there .behind) in (
         placed-test (startBehind isFirst gap before) m ms e (edgesOf ms rest) (there .allowed) (there .start)
             (ap (λ (k : ℕ). placedFrom k ms (edgesOf ms rest)) (sym (next-start (m .width) last e one lw)) ∙ placed),
         ap (λ (xs : List ℕ). pinColumns e (m .pins) ++ xs) columns ∙ sym (there .columns),

@@ -22,10 +22,10 @@ use Rattle.module_records.proofs.put_inner.Tie as tie
 
 abbrev Inv-loop : tie.InvT-loop
 Inv-loop out₀ at side head before end₀ place₀ left₀ last₀ out end place left last =
-    Left out₀ at (sectionBytes (innerTerminals (head .edges) before (pinsFrom side (head .first + pinSize) (head .count - 1)))) out end
+    Left out₀ at (sectionBytes (innerTerminals (head .edges) before (pinsFrom side (head .start + pinSize) (head .count - 1)))) out end
     (sectionBytes (innerTerminals (head .edges) last (pinsFrom side place left)))
     × Later (head .width) (head .edges) last (pinsFrom side place left)
-    × (place + pinSize * left ≡ head .first + pinSize * head .count)
+    × (place + pinSize * left ≡ head .start + pinSize * head .count)
 
 abbrev μ-loop : tie.MeasureT-loop
 μ-loop out₀ at side head before end₀ place₀ left₀ last₀ out end place left last = left
@@ -64,7 +64,7 @@ put-record-requires c κs =
     let l = at-test .before .loop in
     let start = at-test .before .before .before .before .before .before in
     let a = start .args in
-    let all = length-later (a .head .edges) (a .before) (a .side .now) (a .head .first + pinSize) (a .head .count - 1) in
+    let all = length-later (a .head .edges) (a .before) (a .side .now) (a .head .start + pinSize) (a .head .count - 1) in
     let rest = length-later (a .head .edges) (l .last) (a .side .now) (l .place) (l .left) in
     omega (arith, l .inv .0 .place, l .inv .0 .size, all, rest, start .pre .2, at-test .loop-test .taken)
 

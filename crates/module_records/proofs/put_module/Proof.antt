@@ -27,14 +27,14 @@ first :
     (1 ≤ a .head .count)
     × Asks (a .head .edges) (c .pin-at .result)
     × Later (a .head .width) (a .head .edges) (c .pin-at .result .offset)
-    (pinsFrom (a .side .now) (a .head .first + pinSize) (a .head .count - 1))
+    (pinsFrom (a .side .now) (a .head .start + pinSize) (a .head .count - 1))
 first c =
     let start = c .before .before .before in
     let a = start .args in
     let (some, later) = module-pins (a .side .now) (a .head) (start .pre .0) in
-    let pin = pinAt (a .side .now) (a .head .first) in
-    let rest = pinsFrom (a .side .now) (a .head .first + pinSize) (a .head .count - 1) in
-    let more = pins-more (a .side .now) (a .head .first) (a .head .count) some in
+    let pin = pinAt (a .side .now) (a .head .start) in
+    let rest = pinsFrom (a .side .now) (a .head .start + pinSize) (a .head .count - 1) in
+    let more = pins-more (a .side .now) (a .head .start) (a .head .count) some in
     let f = first-later (a .head .width) (a .head .edges) 0 pin rest (rw more at later) in
     (some, rw (c .pin-at .ensures) (f .1), rw (c .pin-at .ensures) (f .2))
 
@@ -65,14 +65,14 @@ put-inner-requires c κs =
 
 -- the two parts make the module's bytes
 module-bytes :
-    (b : List ℕ) (h : Head) (isFirst : Bool) (gap least greatest : ℕ) (p : Pin) (r : Record) → 1 ≤ h .count → p ≡ pinAt b (h .first)
+    (b : List ℕ) (h : Head) (isFirst : Bool) (gap least greatest : ℕ) (p : Pin) (r : Record) → 1 ≤ h .count → p ≡ pinAt b (h .start)
     → least ≡ firstLeast isFirst gap (p .offset) → greatest ≡ firstGreatest isFirst → r ≡ recordOf (pinTerminal (h .edges) least greatest p)
-    → recordBytes (terminalOf r) ++ sectionBytes (innerTerminals (h .edges) (p .offset) (pinsFrom b (h .first + pinSize) (h .count - 1)))
+    → recordBytes (terminalOf r) ++ sectionBytes (innerTerminals (h .edges) (p .offset) (pinsFrom b (h .start + pinSize) (h .count - 1)))
     ≡ sectionBytes (moduleTerminals isFirst gap (moduleOf b h))
 module-bytes b h isFirst gap least greatest p r some e l g f =
     rw (f, l, g, e)
     (ap (λ (ps : List Pin). sectionBytes (pinTerminals (h .edges) (firstLeast isFirst gap (firstOffset ps)) (firstGreatest isFirst) ps))
-    (sym (pins-more b (h .first) (h .count) some)))
+    (sym (pins-more b (h .start) (h .count) some)))
 
 returns : tie.Need-returns
 returns c =

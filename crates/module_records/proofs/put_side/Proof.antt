@@ -11,7 +11,7 @@ use Rattle.text.specs.Writing.{Wrote}
 use Rattle.encode.specs.Encode.{sectionBytes}
 use Rattle.encode.proofs.Left.{Left, all-left, none-left, less-left}
 use Rattle.encode.proofs.Lengths.{length-section, section-append}
-use Rattle.modules.specs.Modules.{Module, pinCount, spare, moduleTerminals, terminalsBehind, sideTerminals}
+use Rattle.modules.specs.Modules.{Module, pinCount, gapOf, moduleTerminals, terminalsBehind, sideTerminals}
 use Rattle.modules.specs.Bytes.{moduleOf, modulesAt}
 use Rattle.modules.proofs.Lists.{length-pins, Lies, modules-end, head-read}
 use Rattle.modules.proofs.Terminals.{length-behind, length-terminals}
@@ -67,15 +67,15 @@ put-module-requires c κs =
         length-section rest,
         length-behind (l .first) (l .gap) (modulesAt b (l .place)),
         ap pinCount list,
-        length-pins b (head .first) (head .count),
+        length-pins b (head .start) (head .count),
         length-section (sideTerminals (modulesAt b 0)),
         length-terminals (modulesAt b 0),
         start .pre .1,
       ),
     )
 
-spare-of-requires : tie.Need-spare-of-requires Inv-loop μ-loop
-spare-of-requires c κs =
+gap-of-requires : tie.Need-gap-of-requires Inv-loop μ-loop
+gap-of-requires c κs =
     let (lies, _, one, _) = here (c .before .before .before .before) in
     (one, omega (arith, lies .pins, lies .inside), sym (lies .pins))
 
@@ -87,22 +87,22 @@ loop-less c =
 -- one module more is written
 next-left :
     {old all mid new : List ℕ} {at end end' gap' : ℕ} (first : Bool) (gap : ℕ) (m : Module) (ms ns : List Module) → ns ≡ m ∷ ms
-    → gap' ≡ spare m
+    → gap' ≡ gapOf m
     → Left old at all mid end (sectionBytes (terminalsBehind first gap ns))
     → Wrote mid end (sectionBytes (moduleTerminals first gap m)) new end'
     → Left old at all new end' (sectionBytes (terminalsBehind false gap' ms))
 next-left first gap m ms ns e g left w =
     rw g
-    (less-left (rw (e, section-append (moduleTerminals first gap m) (terminalsBehind false (spare m) ms)) at left) w)
+    (less-left (rw (e, section-append (moduleTerminals first gap m) (terminalsBehind false (gapOf m) ms)) at left) w)
 
 loop-again : tie.Need-loop-again Inv-loop μ-loop
 loop-again c =
     let at-head = c .before .before .before .before .before in
     let l = at-head .before .before .loop in
     let (lies, list, one, rest) = here at-head in (
-      next-left (l .first) (l .gap) _ _ _ list (c .spare-of .ensures) (l .inv .0) (c .before .before .before .put-module .ensures),
+      next-left (l .first) (l .gap) _ _ _ list (c .gap-of .ensures) (l .inv .0) (c .before .before .before .put-module .ensures),
       rest,
-      omega (arith, c .spare-of .ensures, one .0 .0),
+      omega (arith, c .gap-of .ensures, one .0 .0),
       lies .inside,
     )
 
@@ -121,7 +121,7 @@ put-side-spec =
     loop-holds
     (λ c κs. search needs)
     put-module-requires
-    spare-of-requires
+    gap-of-requires
     loop-less
     loop-again
     (λ c. c .before .loop .inv .0 .size)

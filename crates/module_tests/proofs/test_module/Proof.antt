@@ -21,7 +21,7 @@ returns c =
     let some = c .before .before .before .before .both2 .ensures in
     let edge = c .before .before .last-edge .ensures in
     let beyond = c .before .names-above .ensures in
-    let size = length-pins (a .side .now) (a .head .first) (a .head .count) in
+    let size = length-pins (a .side .now) (a .head .start) (a .head .count) in
     same-tests (sym size)
     (c .both3 .ensures
     ∙ ap₂ (λ (x y : Bool). x && y) wide

@@ -17,9 +17,9 @@ use Rattle.module_tests.proofs.test_pins.Tie as tie
 
 abbrev Inv-loop : tie.InvT-loop
 Inv-loop side head at₀ left₀ before₀ rising₀ named₀ at left before rising named =
-    ((rising && rising? (head .width) before (pinsFrom side at left)) ≡ rising? (head .width) 0 (pinsFrom side (head .first) (head .count)))
-    × ((named && pinsNamed? (pinsFrom side at left)) ≡ pinsNamed? (pinsFrom side (head .first) (head .count)))
-    × (at + pinSize * left ≡ head .first + pinSize * head .count)
+    ((rising && rising? (head .width) before (pinsFrom side at left)) ≡ rising? (head .width) 0 (pinsFrom side (head .start) (head .count)))
+    × ((named && pinsNamed? (pinsFrom side at left)) ≡ pinsNamed? (pinsFrom side (head .start) (head .count)))
+    × (at + pinSize * left ≡ head .start + pinSize * head .count)
 
 abbrev μ-loop : tie.MeasureT-loop
 μ-loop side head at₀ left₀ before₀ rising₀ named₀ at left before rising named = left

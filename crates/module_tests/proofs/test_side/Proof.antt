@@ -54,7 +54,7 @@ few c =
     let l = c .before .before .before .loop in
     let head = c .before .head-in .result in
     let lies = here (c .before) .0 in
-    let pins = ap (λ (t : Tests). t .pins) (c .test-module .ensures) ∙ length-pins _ (head .first) (head .count) in
+    let pins = ap (λ (t : Tests). t .pins) (c .test-module .ensures) ∙ length-pins _ (head .start) (head .count) in
     omega (arith, lies .start, lies .pins, l .inv .2, pins)
 
 join-requires : tie.Need-join-requires Inv-loop μ-loop
