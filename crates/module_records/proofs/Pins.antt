@@ -23,17 +23,17 @@ use Rattle.modules.proofs.Terminals.{length-inner}
 use Rattle.module_records.specs.Writable.{Room, Later, Writable}
 
 -- what the record of a pin asks
-abbrev pub Asks : ℕ → Pin → Type 0
-Asks edges p = (1 ≤ p .offset) × (p .offset ≤ 64) × (edges * 2 ^ (p .offset - 1) < 2 ^ 64)
+abbrev pub AsksRecord : ℕ → Pin → Type 0
+AsksRecord edges p = (1 ≤ p .offset) × (p .offset ≤ 64) × (edges * 2 ^ (p .offset - 1) < 2 ^ 64)
 
-pub pin-room : (w edges : ℕ) (p : Pin) → Room w edges → 1 ≤ p .offset → p .offset ≤ w → Asks edges p
+pin-room : (w edges : ℕ) (p : Pin) → Room w edges → 1 ≤ p .offset → p .offset ≤ w → AsksRecord edges p
 pin-room w edges p (wide, room) one within =
     (one, omega arith, lt-of-le-of-lt (mul-le-mul-left edges (pow-mono {i = p .offset - 1} {j = w - 1} (omega arith))) room)
 
 -- pins behind one at `before`: the first of them, and those behind it
 pub first-later :
     (w edges before : ℕ) (p : Pin) (ps : List Pin) → Later w edges before (p ∷ ps)
-    → (before < p .offset) × Asks edges p × Later w edges (p .offset) ps
+    → (before < p .offset) × AsksRecord edges p × Later w edges (p .offset) ps
 first-later w edges before p ps (room, h) =
     let (a, rest) = and-eq-true-iff (ltb before (p .offset)) (rising? w (p .offset) ps) .0 h in
     let rise : before < p .offset = ltb-true before (p .offset) a in

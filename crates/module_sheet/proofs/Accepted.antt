@@ -14,7 +14,7 @@ use Rattle.refusals.specs.declared.Refusal.the-variants.{Length, Count, Net}
 use Rattle.modules.specs.Modules.{Module, pinCount, every, shaped?, allShaped?, within?, named?}
 use Rattle.modules.proofs.Moved.{moved-fits}
 use Rattle.modules.proofs.Shapes.{shapes}
-use Rattle.module_tests.specs.Tests.{testsOf, joined}
+use Rattle.module_check.specs.Tests.{testsOf, joined}
 use Rattle.module_records.specs.Writable.{AllWritable}
 use Rattle.made.specs.declared.Made.{Made}
 use Rattle.made.specs.declared.Made.the-variants.{Written, Sheet as Unsound, Shape, Edge, SheetBuffer}

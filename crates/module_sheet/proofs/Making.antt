@@ -20,8 +20,8 @@ use Rattle.modules.specs.Modules.{Module, pinCount, sideTerminals, moduleSheet}
 use Rattle.modules.specs.Bytes.{modulesIn}
 use Rattle.modules.proofs.Shapes.{sound-modules}
 use Rattle.modules.proofs.Terminals.{length-terminals}
-use Rattle.module_tests.specs.declared.Tests.{Tests}
-use Rattle.module_tests.specs.Tests.{testsOf, joined}
+use Rattle.module_check.specs.declared.Tests.{Tests}
+use Rattle.module_check.specs.Tests.{testsOf, joined}
 use Rattle.made.specs.declared.Made.{Made}
 use Rattle.made.specs.declared.Made.the-variants.{Written, Sheet as Unsound, Shape, Edge, SheetBuffer}
 use Rattle.made.specs.Numbers.{numberOf, lengthOf}

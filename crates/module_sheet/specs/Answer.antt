@@ -14,8 +14,8 @@ use Rattle.soundness.specs.Read.{read}
 use Rattle.soundness.specs.Read.Read.{sound}
 use Rattle.modules.specs.Modules.{Module, pinCount, moduleSheet}
 use Rattle.modules.specs.Bytes.{modulesIn}
-use Rattle.module_tests.specs.declared.Tests.{Tests}
-use Rattle.module_tests.specs.Tests.{testsOf, joined}
+use Rattle.module_check.specs.declared.Tests.{Tests}
+use Rattle.module_check.specs.Tests.{testsOf, joined}
 use Rattle.made.specs.declared.Made.{Made}
 use Rattle.made.specs.declared.Made.the-variants.{Written, Sheet as Unsound, Shape, Edge, SheetBuffer}
 

@@ -3,10 +3,10 @@ use encode::put_trailer;
 use format::RECORD;
 use made::Made;
 use made::number_of;
+use module_check::Tests;
+use module_check::check_side;
+use module_check::join;
 use module_records::put_side;
-use module_tests::Tests;
-use module_tests::join;
-use module_tests::test_side;
 use refusals::Refusal;
 use trailer::Part;
 use trailer::TRAILER;
@@ -80,8 +80,8 @@ pub fn make(columns: usize, top: &[u8], bottom: &[u8], sheet: &mut [u8]) -> Made
     if 64 < columns {
         return Made::Sheet(Refusal::Length);
     }
-    let over = test_side(top, columns);
-    let under = test_side(bottom, columns);
+    let over = check_side(top, columns);
+    let under = check_side(bottom, columns);
     let p = over.pins;
     let q = under.pins;
     let made = answer(join(over, under), p, q, sheet.len());

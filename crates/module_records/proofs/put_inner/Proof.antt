@@ -16,7 +16,7 @@ use Rattle.modules.specs.Modules.{pinTerminal, innerTerminals}
 use Rattle.modules.specs.Bytes.{pinSize, pinAt, pinsFrom}
 use Rattle.modules.proofs.Lists.{pins-more}
 use Rattle.module_records.specs.Writable.{Later}
-use Rattle.module_records.proofs.Pins.{Asks, first-later, length-later}
+use Rattle.module_records.proofs.Pins.{AsksRecord, first-later, length-later}
 use Rattle.module_records.proofs.put_inner.Statement.{statement}
 use Rattle.module_records.proofs.put_inner.Tie as tie
 
@@ -45,7 +45,7 @@ here :
     → let l = c .before .before .loop in
     let a = c .before .before .before .before .before .before .before .args in
     (l .last < c .pin-at .result .offset)
-    × Asks (a .head .edges) (c .pin-at .result)
+    × AsksRecord (a .head .edges) (c .pin-at .result)
     × Later (a .head .width) (a .head .edges) (c .pin-at .result .offset) (pinsFrom (a .side .now) (l .place + pinSize) (l .left - 1))
 here c =
     let l = c .before .before .loop in

@@ -16,7 +16,7 @@ use Rattle.modules.specs.Modules.{firstOffset, pinTerminal, innerTerminals, pin
 use Rattle.modules.specs.Bytes.{pinSize, pinAt, pinsFrom, moduleOf}
 use Rattle.modules.proofs.Lists.{pins-more}
 use Rattle.module_records.specs.Writable.{Later}
-use Rattle.module_records.proofs.Pins.{Asks, first-later, module-pins}
+use Rattle.module_records.proofs.Pins.{AsksRecord, first-later, module-pins}
 use Rattle.module_records.proofs.put_module.Statement.{statement}
 use Rattle.module_records.proofs.put_module.Tie as tie
 
@@ -25,7 +25,7 @@ first :
     (c : tie.After-pin-at)
     → let a = c .before .before .before .args in
     (1 ≤ a .head .count)
-    × Asks (a .head .edges) (c .pin-at .result)
+    × AsksRecord (a .head .edges) (c .pin-at .result)
     × Later (a .head .width) (a .head .edges) (c .pin-at .result .offset)
     (pinsFrom (a .side .now) (a .head .start + pinSize) (a .head .count - 1))
 first c =

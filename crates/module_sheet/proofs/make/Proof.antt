@@ -6,7 +6,7 @@ use lib.ListN.{length}
 use borrow.Author.Tests.{le-leb, lt-leb}
 use borrow.Author.Needs.{needs}
 use Rattle.modules.specs.Bytes.{modulesIn}
-use Rattle.module_tests.specs.declared.Tests.{Tests}
+use Rattle.module_check.specs.declared.Tests.{Tests}
 use Rattle.made.specs.Numbers.{numberOf}
 use Rattle.module_sheet.specs.Answer.{answerIn, madeOf}
 use Rattle.module_sheet.proofs.Accepted.{Accepted, accepted, all-writable}
@@ -30,7 +30,7 @@ returns-2 c =
 join-requires : tie.Need-join-requires
 join-requires c κs =
     let start = c .before .before .before .before .before .before .before in
-    omega (arith, c .before .test-side .ensures .1, c .test-side2 .ensures .1, start .good .1 .0, start .good .1 .1 .0)
+    omega (arith, c .before .check-side .ensures .1, c .check-side2 .ensures .1, start .good .1 .0, start .good .1 .1 .0)
 
 -- the answer that was given
 answer :
@@ -40,8 +40,8 @@ answer :
 answer c =
     let at-join = c .before in
     let e2 = at-join .before .before .before in
-    made-of _ _ _ _ _ _ _ _ (omega (arith, e2 .before .if1 .left)) (e2 .if2 .left) (at-join .before .before .test-side .ensures .0)
-    (at-join .before .test-side2 .ensures .0) (at-join .join .ensures) (c .answer .ensures)
+    made-of _ _ _ _ _ _ _ _ (omega (arith, e2 .before .if1 .left)) (e2 .if2 .left) (at-join .before .before .check-side .ensures .0)
+    (at-join .before .check-side2 .ensures .0) (at-join .join .ensures) (c .answer .ensures)
 
 -- a sheet is written only where nothing is refused
 ok :
@@ -56,8 +56,8 @@ put-sheet-requires c κs =
     let at-bottom = c .before .before .before .before .before in
     let a = at-bottom .before .before .before .before .before .before .before .args in
     let k = ok (c .before) in
-    let top = ap (λ (t : Tests). t .pins) (at-bottom .before .test-side .ensures .0) in
-    let bottom = ap (λ (t : Tests). t .pins) (at-bottom .test-side2 .ensures .0) in (
+    let top = ap (λ (t : Tests). t .pins) (at-bottom .before .check-side .ensures .0) in
+    let bottom = ap (λ (t : Tests). t .pins) (at-bottom .check-side2 .ensures .0) in (
       all-writable (a .columns) (k .columns .1) (modulesIn (a .top .now)) (k .shapes .0) (k .within .0),
       all-writable (a .columns) (k .columns .1) (modulesIn (a .bottom .now)) (k .shapes .1) (k .within .1),
       top,

@@ -1,8 +1,8 @@
--- `module_tests::join` meets its contract: field by field.
+-- `module_check::join` meets its contract: field by field.
 -- Assumes nothing.
 use borrow.Author.Needs.{needs}
-use Rattle.module_tests.proofs.join.Statement.{statement}
-use Rattle.module_tests.proofs.join.Tie as tie
+use Rattle.module_check.proofs.join.Statement.{statement}
+use Rattle.module_check.proofs.join.Tie as tie
 
 returns : tie.Need-returns
 returns c = cc

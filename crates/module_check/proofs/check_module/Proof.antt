@@ -1,4 +1,4 @@
--- `module_tests::test_module` meets its contract: each test is what its call gave.
+-- `module_check::check_module` meets its contract: each test is what its call gave.
 -- Assumes nothing.
 use Prim.Native.Nat.{ℕ}
 use mathlib.Core.Path.{sym, _∙_, ap, ap₂}
@@ -7,16 +7,16 @@ use lib.Dec.{leb}
 use borrow.Author.Needs.{needs}
 use Rattle.channel.specs.Sheet.{namesAbove}
 use Rattle.modules.proofs.Lists.{length-pins}
-use Rattle.module_tests.specs.declared.PinTests.{PinTests}
-use Rattle.module_tests.proofs.Joined.{same-tests}
-use Rattle.module_tests.proofs.test_module.Statement.{statement}
-use Rattle.module_tests.proofs.test_module.Tie as tie
+use Rattle.module_check.specs.declared.PinTests.{PinTests}
+use Rattle.module_check.proofs.Joined.{same-tests}
+use Rattle.module_check.proofs.check_module.Statement.{statement}
+use Rattle.module_check.proofs.check_module.Tie as tie
 
 returns : tie.Need-returns
 returns c =
     let at-pins = c .before .before .before .before .before .before .before .before .before in
     let a = at-pins .before .before .args in
-    let pins = at-pins .test-pins .ensures in
+    let pins = at-pins .check-pins .ensures in
     let wide = c .before .before .before .before .before .before .both .ensures in
     let some = c .before .before .before .before .both2 .ensures in
     let edge = c .before .before .last-edge .ensures in
@@ -29,8 +29,8 @@ returns c =
     (ap not (beyond ∙ ap (λ (n : ℕ). namesAbove n (a .head .edges)) edge))
     (ap (λ (t : PinTests). t .named) pins)
 
-pub test-module-spec : {M : Type 1} → statement M
-test-module-spec =
+pub check-module-spec : {M : Type 1} → statement M
+check-module-spec =
     tie.close
     (tie.spec
     (λ c κs. search needs)

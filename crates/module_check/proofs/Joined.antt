@@ -6,8 +6,8 @@ use mathlib.Core.List.{List, [], _∷_}
 use mathlib.Core.Bool.{Bool, and-assoc, and-true}
 use native.Mathlib.Nat.{add-assoc, add-zero}
 use Rattle.modules.specs.Modules.{Module}
-use Rattle.module_tests.specs.declared.Tests.{Tests}
-use Rattle.module_tests.specs.Tests.{moduleTests, allTests, joined}
+use Rattle.module_check.specs.declared.Tests.{Tests}
+use Rattle.module_check.specs.Tests.{moduleTests, allTests, joined}
 
 abbrev pub tests : ℕ → Bool → Bool → Bool → Tests
 tests n shaped within named = record { pins = n; shaped = shaped; within = within; named = named }

@@ -1,4 +1,4 @@
--- `module_tests::test_side` meets its contract: the modules passed and the modules left make the side's.
+-- `module_check::check_side` meets its contract: the modules passed and the modules left make the side's.
 -- Assumes nothing.
 use Prim.Native.Nat.{ℕ, _+_, _-_, _≤_}
 use mathlib.Core.Path.{_≡_, refl, sym, _∙_, ap, ap₂}
@@ -11,11 +11,11 @@ use borrow.Author.Needs.{needs}
 use Rattle.modules.specs.Modules.{Module}
 use Rattle.modules.specs.Bytes.{moduleOf, modulesAt}
 use Rattle.modules.proofs.Lists.{length-pins, Lies, modules-end, head-read}
-use Rattle.module_tests.specs.declared.Tests.{Tests}
-use Rattle.module_tests.specs.Tests.{allTests, joined}
-use Rattle.module_tests.proofs.Joined.{same-tests, joined-more, all-joined}
-use Rattle.module_tests.proofs.test_side.Statement.{statement}
-use Rattle.module_tests.proofs.test_side.Tie as tie
+use Rattle.module_check.specs.declared.Tests.{Tests}
+use Rattle.module_check.specs.Tests.{allTests, joined}
+use Rattle.module_check.proofs.Joined.{same-tests, joined-more, all-joined}
+use Rattle.module_check.proofs.check_side.Statement.{statement}
+use Rattle.module_check.proofs.check_side.Tie as tie
 
 abbrev Inv-loop : tie.InvT-loop
 Inv-loop side columns at₀ count₀ all₀ at count all =
@@ -41,20 +41,20 @@ here :
 here c =
     head-read (c .before .before .before .before .args .side .now) _ _ (c .head-in .ensures) (c .before .loop-test .taken)
 
-test-module-requires : tie.Need-test-module-requires Inv-loop μ-loop
-test-module-requires c κs =
+check-module-requires : tie.Need-check-module-requires Inv-loop μ-loop
+check-module-requires c κs =
     let lies = here c .0 in
     (c .before .before .before .before .pre, omega (arith, lies .pins, lies .inside))
 
 -- its pins, with those passed, lie before its end
 few :
-    (c : tie.After-test-module Inv-loop μ-loop)
-    → c .before .before .before .loop .all .pins + c .test-module .result .pins ≤ c .before .head-in .result .end
+    (c : tie.After-check-module Inv-loop μ-loop)
+    → c .before .before .before .loop .all .pins + c .check-module .result .pins ≤ c .before .head-in .result .end
 few c =
     let l = c .before .before .before .loop in
     let head = c .before .head-in .result in
     let lies = here (c .before) .0 in
-    let pins = ap (λ (t : Tests). t .pins) (c .test-module .ensures) ∙ length-pins _ (head .start) (head .count) in
+    let pins = ap (λ (t : Tests). t .pins) (c .check-module .ensures) ∙ length-pins _ (head .start) (head .count) in
     omega (arith, lies .start, lies .pins, l .inv .2, pins)
 
 join-requires : tie.Need-join-requires Inv-loop μ-loop
@@ -70,7 +70,7 @@ loop-again c =
     let a = at-head .before .before .before .before .args in
     let head = at-head .head-in .result in
     let (lies, list) = here at-head in (
-      rw (c .join .ensures, c .before .test-module .ensures)
+      rw (c .join .ensures, c .before .check-module .ensures)
           (joined-more (a .columns) (l .all) (moduleOf (a .side .now) head) (modulesAt (a .side .now) (head .end))
           ∙ ap (λ (ms : List Module). joined (l .all) (allTests (a .columns) ms)) (sym list)
           ∙ l .inv .0),
@@ -97,15 +97,15 @@ returns c =
       omega (arith, l .inv .2, l .inv .4),
     )
 
-pub test-side-spec : {M : Type 1} → statement M
-test-side-spec =
+pub check-side-spec : {M : Type 1} → statement M
+check-side-spec =
     tie.close
     (tie.spec
     Inv-loop
     μ-loop
     loop-holds
     (λ c κs. search needs)
-    test-module-requires
+    check-module-requires
     join-requires
     (λ c. search needs)
     loop-less

@@ -5,8 +5,8 @@ use mathlib.Core.List.{List}
 use mathlib.Core.Bool.{_&&_}
 use lib.ListN.{length}
 use Rattle.modules.specs.Modules.{Module, pinCount, every, rising?, shaped?, allShaped?, within?, pinsNamed?, named?}
-use Rattle.module_tests.specs.declared.Tests.{Tests}
-use Rattle.module_tests.specs.declared.PinTests.{PinTests}
+use Rattle.module_check.specs.declared.Tests.{Tests}
+use Rattle.module_check.specs.declared.PinTests.{PinTests}
 
 abbrev pub pinTestsOf : Module → PinTests
 pinTestsOf m = record { rising = rising? (m .width) 0 (m .pins); named = pinsNamed? (m .pins) }

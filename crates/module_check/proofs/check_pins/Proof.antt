@@ -1,4 +1,4 @@
--- `module_tests::test_pins` meets its contract: the pins passed and the pins left make the module's.
+-- `module_check::check_pins` meets its contract: the pins passed and the pins left make the module's.
 -- Assumes nothing.
 use Prim.Native.Nat.{ℕ, _+_, _-_, _*_, _<_}
 use mathlib.Core.Path.{_≡_, refl, sym, _∙_, ap, ap₂}
@@ -11,9 +11,9 @@ use Rattle.modules.specs.declared.Pin.{Pin}
 use Rattle.modules.specs.Modules.{rising?, pinsNamed?}
 use Rattle.modules.specs.Bytes.{pinSize, pinAt, pinsFrom}
 use Rattle.modules.proofs.Lists.{pins-more}
-use Rattle.module_tests.specs.declared.PinTests.{PinTests}
-use Rattle.module_tests.proofs.test_pins.Statement.{statement}
-use Rattle.module_tests.proofs.test_pins.Tie as tie
+use Rattle.module_check.specs.declared.PinTests.{PinTests}
+use Rattle.module_check.proofs.check_pins.Statement.{statement}
+use Rattle.module_check.proofs.check_pins.Tie as tie
 
 abbrev Inv-loop : tie.InvT-loop
 Inv-loop side head at₀ left₀ before₀ rising₀ named₀ at left before rising named =
@@ -61,8 +61,8 @@ returns c =
     tests : Bool → Bool → PinTests
     tests x y = record { rising = x; named = y }
 
-pub test-pins-spec : {M : Type 1} → statement M
-test-pins-spec =
+pub check-pins-spec : {M : Type 1} → statement M
+check-pins-spec =
     tie.close
     (tie.spec
     Inv-loop

@@ -9,7 +9,7 @@ ghost use mathlib.Core.Bool.{_&&_};
 ghost use Prim.Native.Nat.{_+_, _-_, _*_, _^_, _≤_, _<_};
 ghost use lib.ListN.{length};
 ghost use Rattle.modules.specs.Bytes.{pinSize, moduleOf, modulesIn};
-ghost use Rattle.module_tests.specs.Tests.{pinTestsOf, moduleTests, joined, testsOf};
+ghost use Rattle.module_check.specs.Tests.{pinTestsOf, moduleTests, joined, testsOf};
 
 // The tests of a side, and the number of its pins.
 pub struct Tests {
@@ -32,7 +32,7 @@ fn both(a: bool, b: bool) -> bool
 }
 
 // Whether the offsets of a module's pins rise within its width, and whether all its nets are named.
-fn test_pins(side: &[u8], head: Head) -> PinTests
+fn check_pins(side: &[u8], head: Head) -> PinTests
     requires { ⌜ head .start + pinSize * head .count ≤ length (now side) ⌝ }
     ensures { λ r. ⌜ r ≡ pinTestsOf (moduleOf (now (side .entry)) head) ⌝ }
 {
@@ -68,11 +68,11 @@ fn last_edge(columns: usize, width: usize) -> usize
 }
 
 // The tests of one module.
-fn test_module(side: &[u8], head: Head, columns: usize) -> Tests
+fn check_module(side: &[u8], head: Head, columns: usize) -> Tests
     requires { ⌜ (columns ≤ 64) × (head .start + pinSize * head .count ≤ length (now side)) ⌝ }
     ensures { λ r. ⌜ r ≡ moduleTests columns (moduleOf (now (side .entry)) head) ⌝ }
 {
-    let pins = test_pins(side, head);
+    let pins = check_pins(side, head);
     let wide = both(1 <= head.width, head.width <= 64);
     let some = both(1 <= head.count, pins.rising);
     let beyond = names_above(head.edges, last_edge(columns, head.width as usize));
@@ -98,7 +98,7 @@ pub fn join(a: Tests, b: Tests) -> Tests
 }
 
 // The tests of a side in a channel of so many columns.
-pub fn test_side(side: &[u8], columns: usize) -> Tests
+pub fn check_side(side: &[u8], columns: usize) -> Tests
     requires { ⌜ columns ≤ 64 ⌝ }
     ensures { λ r. ⌜ (r ≡ testsOf columns (modulesIn (now (side .entry)))) × (r .pins ≤ length (now (side .entry))) ⌝ }
 {
@@ -112,7 +112,7 @@ pub fn test_side(side: &[u8], columns: usize) -> Tests
     };
     while at < side.len() {
         let head = head_in(side, at);
-        all = join(all, test_module(side, head, columns));
+        all = join(all, check_module(side, head, columns));
         count += 1;
         at = head.end;
     }
