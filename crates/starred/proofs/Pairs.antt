@@ -4,7 +4,6 @@ use Prim.Native.Nat.{ℕ, zero, suc, _≤_}
 use mathlib.Core.Path.{_≡_, refl, sym, _∙_}
 use mathlib.Core.Bool.{true, false, true≢false}
 use native.Mathlib.Omega.{arith}
-use Rattle.channel.specs.Sheet.{Terminal}
 use Rattle.channel.specs.Assignment.{allows, fits}
 use Rattle.channel.specs.Density.{crosses, netsOf, columnDensity, density}
 use Rattle.channel.specs.Word.{word, columnsOf, words}
@@ -16,10 +15,11 @@ use Rattle.trailer.specs.Trailer.{trailerOf, hasMark}
 use Rattle.format.specs.Format.{terminalAt, terminalsFrom}
 use Rattle.format.specs.Parts.{bytesOf, terminalsIn}
 use Rattle.form.specs.Form.{laidOut, trailerCheck, formOf}
+use Rattle.encode.specs.Encode.{sheetBytes}
 use Rattle.soundness.specs.Check.{terminalCheck, checkOf}
 use Rattle.soundness.specs.Read.{sheetOf, read}
 use Rattle.search.specs.Answer.{answerIn, searchedOf, columnsAfter}
-use Rattle.starred.specs.Sheets.{full}
+use Rattle.starred.specs.Sheets.{first, later, full}
 use Rattle.starred.specs.Table.{Paired}
 
 -- what the set {1, 2} allows, {1, 2, 3} does
@@ -47,25 +47,19 @@ full-5 (suc (suc (suc (suc zero)))) h g = refl
 full-5 (suc (suc (suc (suc (suc zero))))) h g = refl
 full-5 (suc (suc (suc (suc (suc (suc c)))))) h g = absurd (omega arith)
 
--- a terminal of sheet A, with a full set of l columns: the first of a side, and the second
-abbrev first : ℕ → ℕ → Terminal
-first n l = record { net = n; least = 0; greatest = 0; allowed = full l }
-
-abbrev second : ℕ → ℕ → Terminal
-second n l = record { net = n; least = 1; greatest = 255; allowed = full l }
-
-first-looser : (n : ℕ) → Looser true (first n 2) (first n 3)
+-- the terminals of sheet A with full sets
+first-looser : (n : ℕ) → Looser true (first n (full 2)) (first n (full 3))
 first-looser n = record { net = refl; allowed = wider; distances = tt }
 
-second-looser : (n : ℕ) → Looser false (second n 2) (second n 3)
-second-looser n = record { net = refl; allowed = wider; distances = (omega arith, omega arith) }
+later-looser : (n : ℕ) → Looser false (later n 1 255 (full 2)) (later n 1 255 (full 3))
+later-looser n = record { net = refl; allowed = wider; distances = (omega arith, omega arith) }
 
-first-free : (n : ℕ) → BothFree 4 5 true (first n 4) (first n 5)
+first-free : (n : ℕ) → BothFree 4 5 true (first n (full 4)) (first n (full 5))
 first-free n =
     record { net = refl; first = record { allowed = full-4; distances = tt }; second = record { allowed = full-5; distances = tt } }
 
-second-free : (n : ℕ) → BothFree 4 5 false (second n 4) (second n 5)
-second-free n =
+later-free : (n : ℕ) → BothFree 4 5 false (later n 1 255 (full 4)) (later n 1 255 (full 5))
+later-free n =
     record {
       net = refl;
       first = record { allowed = full-4; distances = (refl, refl) };
@@ -73,7 +67,7 @@ second-free n =
     }
 
 pub paired : Paired
-unfolding fits crosses netsOf columnDensity density word columnsOf words bestOf best little terminalAt terminalsFrom trailerOf
+unfolding fits crosses netsOf columnDensity density word columnsOf words bestOf best little terminalAt terminalsFrom trailerOf sheetBytes
     hasMark bytesOf terminalsIn laidOut trailerCheck formOf terminalCheck checkOf sheetOf read answerIn searchedOf columnsAfter
 paired =
     record {
@@ -82,8 +76,8 @@ paired =
       loosened =
           record {
             columns = omega arith;
-            top = (first-looser 1, (second-looser 2, tt));
-            bottom = (first-looser 2, (second-looser 1, tt));
+            top = (first-looser 1, (later-looser 2, tt));
+            bottom = (first-looser 2, (later-looser 1, tt));
           };
       A-4-reads = refl;
       A-5-reads = refl;
@@ -91,8 +85,8 @@ paired =
           record {
             columns = omega arith;
             room = omega arith;
-            top = (first-free 1, (second-free 2, tt));
-            bottom = (first-free 2, (second-free 1, tt));
+            top = (first-free 1, (later-free 2, tt));
+            bottom = (first-free 2, (later-free 1, tt));
           };
       A-5 = (refl, refl, refl);
     }

@@ -11,6 +11,7 @@ use Rattle.trailer.specs.Trailer.{trailerOf, hasMark}
 use Rattle.format.specs.Format.{terminalAt, terminalsFrom}
 use Rattle.format.specs.Parts.{bytesOf, terminalsIn}
 use Rattle.form.specs.Form.{laidOut, trailerCheck, formOf}
+use Rattle.encode.specs.Encode.{sheetBytes}
 use Rattle.soundness.specs.Check.{terminalCheck, checkOf}
 use Rattle.soundness.specs.Read.{sheetOf, read}
 use Rattle.sheet.specs.Parts.{shapeOf}
@@ -23,7 +24,7 @@ use Rattle.starred.specs.Table.{Starred}
 pub starred : Starred
 unfolding fits topColumns bottomColumns assignment? crosses netsOf columnDensity density word columnsOf words bestOf best
     little terminalAt terminalsFrom trailerOf hasMark bytesOf terminalsIn laidOut trailerCheck formOf terminalCheck checkOf
-    sheetOf read shapeOf
+    sheetOf read shapeOf sheetBytes
     layoutOf openedOf amount allAllowed firstAmount columnsListed sheetListed listedOf measuredOf answerIn searchedOf columnsAfter
 starred =
     record {

@@ -1,36 +1,21 @@
--- The bytes of the sheets with known results (document 01, "The sheet" and "Sheets with known results").
+-- The bytes of the sheets with known results (document 01, "Sheets with known results").
 -- Assumes nothing.
-use Prim.Native.Nat.{ℕ, zero, suc, _-_, _/_, _%_, _^_}
-use mathlib.Core.List.{List, [], _∷_, _++_}
-use lib.ListN.{length}
+use Prim.Native.Nat.{ℕ, _-_, _^_}
+use mathlib.Core.List.{List, [], _∷_}
+use Rattle.channel.specs.Sheet.{Terminal, sheetWith}
+use Rattle.trailer.specs.Trailer.{CP}
+use Rattle.encode.specs.Encode.{sheetBytes}
 
--- "Little-endian": n in k bytes
-abbrev pub bytes : ℕ → ℕ → List ℕ
-bytes zero n = []
-bytes (suc k) n = n % 256 ∷ bytes k (n / 256)
+-- a terminal, and the first of a side: "The first record of a side has distances 0 and 0"
+abbrev pub later : ℕ → ℕ → ℕ → ℕ → Terminal
+later net least greatest set = record { net = net; least = least; greatest = greatest; allowed = set }
 
--- "Record: net (2 bytes), least distance (1), greatest distance (1), allowed set (8 ..)"
-abbrev pub later : ℕ → ℕ → ℕ → ℕ → List ℕ
-later net least greatest set = bytes 2 net ++ bytes 1 least ++ bytes 1 greatest ++ bytes 8 set
-
--- "The first record of a side has distances 0 and 0"
-abbrev pub first : ℕ → ℕ → List ℕ
+abbrev pub first : ℕ → ℕ → Terminal
 first net set = later net 0 0 set
 
--- "Trailer: top section's offset (2), top terminals p (2), bottom section's offset (2), bottom terminals q (2), length L (2),
--- and the last two bytes must be the letters CP"; the top section stands first, and the bottom one behind it
-abbrev pub trailer : ℕ → ℕ → ℕ → ℕ → List ℕ
-trailer l p behind q = bytes 2 0 ++ bytes 2 p ++ bytes 2 behind ++ bytes 2 q ++ bytes 2 l ++ 67 ∷ 80 ∷ []
-
--- the records of one side, one behind the other
-abbrev pub section : List (List ℕ) → List ℕ
-section [] = []
-section (r ∷ rs) = r ++ section rs
-
--- a sheet of length l with these records
-abbrev pub sheet : ℕ → List (List ℕ) → List (List ℕ) → List ℕ
-sheet l top bottom =
-    section top ++ section bottom ++ trailer l (length top) (length (section top)) (length bottom)
+-- a sheet of length l with these terminals
+abbrev pub sheet : ℕ → List Terminal → List Terminal → List ℕ
+sheet l top bottom = sheetBytes CP (sheetWith l top bottom)
 
 -- a full set: every column from 1 to l
 abbrev pub full : ℕ → ℕ
