@@ -58,7 +58,7 @@ enum cazdrob_number {
     CAZDROB_OUT_OF_RANGE = 14, /* a distance is out of range, by *amount columns */
     /* given by cazdrob_modules alone; its 9 is the sheet buffer, that of a search the column buffer */
     CAZDROB_SHEET_BUFFER = 9, /* the sheet buffer is shorter than 12(p+q)+12 bytes */
-    CAZDROB_SHAPE = 16,       /* a module breaks its rule, or a side has more than 16 of them */
+    CAZDROB_MODULE = 16,      /* a module breaks its rule, or a side has more than 16 of them */
     CAZDROB_EDGE = 17         /* a module's set names a left edge from which it does not fit the channel */
 };
 

@@ -290,25 +290,25 @@ int main(void) {
     EXPECT(makes(65, TOP, 29, BOTTOM, 13, 60, CAZDROB_LENGTH, NULL, 0));
     EXPECT(makes(SIZE_MAX, TOP, 28, BOTTOM, 13, 59, CAZDROB_LENGTH, NULL, 0));
     /* no pins */
-    EXPECT(makes(5, bare, 10, BOTTOM, 13, 60, CAZDROB_SHAPE, NULL, 0));
-    EXPECT(makes(5, TOP, 29, bare, 10, 60, CAZDROB_SHAPE, NULL, 0));
+    EXPECT(makes(5, bare, 10, BOTTOM, 13, 60, CAZDROB_MODULE, NULL, 0));
+    EXPECT(makes(5, TOP, 29, bare, 10, 60, CAZDROB_MODULE, NULL, 0));
     /* width and offsets */
-    EXPECT(refuses_top(0, 0, CAZDROB_SHAPE));
-    EXPECT(refuses_top(0, 65, CAZDROB_SHAPE));
-    EXPECT(refuses_top(10, 0, CAZDROB_SHAPE));
-    EXPECT(refuses_top(13, 1, CAZDROB_SHAPE));
-    EXPECT(refuses_top(13, 4, CAZDROB_SHAPE));
-    EXPECT(refuses_bottom(0, 0, CAZDROB_SHAPE));
-    EXPECT(refuses_bottom(0, 65, CAZDROB_SHAPE));
-    EXPECT(refuses_bottom(10, 0, CAZDROB_SHAPE));
-    EXPECT(refuses_bottom(10, 2, CAZDROB_SHAPE));
+    EXPECT(refuses_top(0, 0, CAZDROB_MODULE));
+    EXPECT(refuses_top(0, 65, CAZDROB_MODULE));
+    EXPECT(refuses_top(10, 0, CAZDROB_MODULE));
+    EXPECT(refuses_top(13, 1, CAZDROB_MODULE));
+    EXPECT(refuses_top(13, 4, CAZDROB_MODULE));
+    EXPECT(refuses_bottom(0, 0, CAZDROB_MODULE));
+    EXPECT(refuses_bottom(0, 65, CAZDROB_MODULE));
+    EXPECT(refuses_bottom(10, 0, CAZDROB_MODULE));
+    EXPECT(refuses_bottom(10, 2, CAZDROB_MODULE));
     /* cut short: in the head and in the pins */
-    EXPECT(makes(5, TOP, 1, BOTTOM, 13, 60, CAZDROB_SHAPE, NULL, 0));
-    EXPECT(makes(5, TOP, 25, BOTTOM, 13, 60, CAZDROB_SHAPE, NULL, 0));
-    EXPECT(makes(5, TOP, 28, BOTTOM, 13, 60, CAZDROB_SHAPE, NULL, 0));
-    EXPECT(makes(5, TOP, 29, BOTTOM, 9, 60, CAZDROB_SHAPE, NULL, 0));
-    EXPECT(makes(5, TOP, 29, BOTTOM, 12, 60, CAZDROB_SHAPE, NULL, 0));
-    EXPECT(many(17, 1, CAZDROB_SHAPE, 0));
+    EXPECT(makes(5, TOP, 1, BOTTOM, 13, 60, CAZDROB_MODULE, NULL, 0));
+    EXPECT(makes(5, TOP, 25, BOTTOM, 13, 60, CAZDROB_MODULE, NULL, 0));
+    EXPECT(makes(5, TOP, 28, BOTTOM, 13, 60, CAZDROB_MODULE, NULL, 0));
+    EXPECT(makes(5, TOP, 29, BOTTOM, 9, 60, CAZDROB_MODULE, NULL, 0));
+    EXPECT(makes(5, TOP, 29, BOTTOM, 12, 60, CAZDROB_MODULE, NULL, 0));
+    EXPECT(many(17, 1, CAZDROB_MODULE, 0));
     EXPECT(refuses_top(2, 15, CAZDROB_EDGE));
     EXPECT(refuses_top(18, 28, CAZDROB_EDGE));
     EXPECT(refuses_top(9, 128, CAZDROB_EDGE));
@@ -326,7 +326,7 @@ int main(void) {
     EXPECT(makes(5, top, 29, BOTTOM, 13, 59, CAZDROB_NET, NULL, 0));
     top[2] = 15;
     EXPECT(makes(5, top, 29, BOTTOM, 13, 59, CAZDROB_EDGE, NULL, 0));
-    EXPECT(makes(5, top, 29, BOTTOM, 12, 59, CAZDROB_SHAPE, NULL, 0));
+    EXPECT(makes(5, top, 29, BOTTOM, 12, 59, CAZDROB_MODULE, NULL, 0));
     EXPECT(makes(0, top, 29, BOTTOM, 12, 59, CAZDROB_LENGTH, NULL, 0));
 
     printf("%u passed, %u failed\n", passed, failed);

@@ -1,29 +1,19 @@
 -- An assignment and its word are the same thing: each is made from the other, and the way there and back changes nothing.
 -- Assumes nothing.
-use Prim.Native.Nat.{ℕ, zero, suc, _+_, _^_, _≤_, zero-le}
+use Prim.Native.Nat.{ℕ, suc, _+_, _≤_, zero-le}
 use native.Mathlib.Omega.{arith}
-use mathlib.Core.Path.{_≡_, refl, sym, ap, _∙_}
+use mathlib.Core.Path.{_≡_, refl, ap}
 use mathlib.Core.List.{List, [], _∷_}
 use mathlib.Core.Bool.{Bool, true, false, _&&_, false≢true, and-eq-true-iff}
 use lib.ListN.{length, take-append-drop}
 use lib.Seq.{take-at, drop-at}
 use lib.Dec.{leb}
-use borrow.Author.Tests.{leb-true, leb-false}
-use Rattle.channel.specs.Sheet.{Terminal, Sheet, Sound, SoundFrom, namesAbove}
+use borrow.Author.Tests.{leb-true}
+use Rattle.channel.specs.Sheet.{Terminal, Sheet, Sound, SoundFrom}
 use Rattle.channel.specs.Assignment.{allows, inRange, laterFit, sideFits, fits, topColumns, bottomColumns, assignment?}
 use Rattle.channel.specs.Word.{Letter, hasTop, hasBottom, word, columnsWith, columnsOf}
-use Rattle.channel.proofs.Sets.{allows-below}
+use Rattle.channel.proofs.Sets.{allowed-column}
 use Rattle.channel.proofs.Columns.{Rises, length-wordOf, columns-of-wordOf, wordOf-columns}
-
--- an allowed column of a set that names none above l is one of the columns 1 to l
-allowed-column : (l set c : ℕ) → allows set c ≡ true → namesAbove l set ≡ false → (1 ≤ c) × (c ≤ l)
-allowed-column l set zero h above = absurd (false≢true h)
-allowed-column l set (suc c) h above = (omega arith, decide (leb (suc c) l) refl)
-  where
-    decide : (t : Bool) → leb (suc c) l ≡ t → suc c ≤ l
-    decide true q = leb-true (suc c) l q
-    decide false q =
-        absurd (false≢true (sym (allows-below set l (suc c) (leb-false (2 ^ l) set above) (leb-false (suc c) l q)) ∙ h))
 
 -- what `laterFit` asks of a terminal that stands in column c
 pub later-parts :

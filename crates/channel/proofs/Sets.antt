@@ -25,6 +25,16 @@ allows-below set l (suc c) h k = ap (λ (n : ℕ). eqb (n % 2) 1) (div-eq-of-lt 
     k' : l ≤ c
     k' = omega arith
 
+-- an allowed column of a set that names none above l is one of the columns 1 to l
+pub allowed-column : (l set c : ℕ) → allows set c ≡ true → namesAbove l set ≡ false → (1 ≤ c) × (c ≤ l)
+allowed-column l set zero h above = absurd (true≢false (sym h))
+allowed-column l set (suc c) h above = (omega arith, decide (leb (suc c) l) refl)
+  where
+    decide : (t : Bool) → leb (suc c) l ≡ t → suc c ≤ l
+    decide true q = leb-true (suc c) l q
+    decide false q =
+        absurd (true≢false (sym h ∙ allows-below set l (suc c) (leb-false (2 ^ l) set above) (leb-false (suc c) l q)))
+
 -- a number has a bit at l or higher exactly when its quotient by 2 ^ l is not 0
 pub names-above-quotient : (l set : ℕ) → not (eqb (set / 2 ^ l) 0) ≡ namesAbove l set
 names-above-quotient l set = by-test (leb (2 ^ l) set) refl

@@ -18,7 +18,7 @@ use Rattle.form.specs.Form.{laidOut, trailerCheck, formOf}
 use Rattle.soundness.specs.Check.{terminalCheck, sideCheck, checkOf}
 use Rattle.soundness.specs.Read.{sheetOf, read}
 use Rattle.soundness.specs.Read.Read.{sound}
-use Rattle.encode.specs.Encode.{sectionBytes, sectionsBytes, trailerBytes, topFirst, sheetBytes, Encodable}
+use Rattle.encode.specs.Encode.{sectionBytes, sectionsBytes, trailerBytes, topFirst, sheetBytes, sheetSize, Encodable}
 use Rattle.encode.proofs.Lengths.{length-section, length-sections, length-sheet}
 use Rattle.encode.proofs.Bytes.{trailer-behind, trailer-read, section-read}
 
@@ -35,8 +35,8 @@ module _ (s : Sheet) (whole : Sound s) (fit : Encodable s) where
   abbrev last : Trailer
   last = topFirst (s .columns) (length (s .top)) (length (s .bottom))
 
-  size : length b ≡ recordSize * (length (s .top) + length (s .bottom)) + trailerSize
-  size = omega (arith, length-sheet CP s)
+  size : length b ≡ sheetSize (length (s .top)) (length (s .bottom))
+  size = length-sheet CP s refl
 
   -- the trailer stands behind the sections
   trailer : trailerOf b ≡ last
@@ -70,7 +70,7 @@ module _ (s : Sheet) (whole : Sound s) (fit : Encodable s) where
         le-ltb 64 (s .columns) short,
         le-ltb 64 (length (s .top)) few,
         le-ltb 64 (length (s .bottom)) few',
-        eq-eqb (length b) (recordSize * (length (s .top) + length (s .bottom)) + trailerSize) size,
+        eq-eqb (length b) (sheetSize (length (s .top)) (length (s .bottom))) size,
         eq-eqb (recordSize * length (s .top)) (recordSize * length (s .top)) refl,
       )
 

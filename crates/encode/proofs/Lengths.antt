@@ -7,7 +7,7 @@ use native.Mathlib.Omega.{arith}
 use lib.ListN.{length, length-append}
 use Rattle.channel.specs.Sheet.{Terminal, Sheet}
 use Rattle.format.specs.Format.{recordSize}
-use Rattle.encode.specs.Encode.{bytes, recordBytes, sectionBytes, sectionsBytes, trailerBytes, topFirst, sheetBytes}
+use Rattle.encode.specs.Encode.{bytes, recordBytes, sectionBytes, sectionsBytes, trailerBytes, topFirst, sheetBytes, sheetSize}
 
 pub length-bytes : (k n : ℕ) → length (bytes k n) ≡ k
 length-bytes zero n = refl
@@ -30,8 +30,8 @@ length-sections s =
 
 -- the sections, ten bytes of numbers, the mark
 pub length-sheet :
-    (mark : List ℕ) (s : Sheet) → length (sheetBytes mark s) ≡ recordSize * (length (s .top) + length (s .bottom)) + 10 + length mark
+    (mark : List ℕ) (s : Sheet) → length mark ≡ 2 → length (sheetBytes mark s) ≡ sheetSize (length (s .top)) (length (s .bottom))
 unfolding sheetBytes
-length-sheet mark s =
+length-sheet mark s two =
     let last = trailerBytes (topFirst (s .columns) (length (s .top)) (length (s .bottom))) mark in
-    omega (arith, length-append (sectionsBytes s) last, length-sections s)
+    omega (arith, length-append (sectionsBytes s) last, length-sections s, two)

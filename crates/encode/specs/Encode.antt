@@ -1,11 +1,12 @@
 -- A sheet as bytes (document 01, "The sheet"): the top section, the bottom section, then the trailer, which ends in the mark.
 -- Assumes nothing.
-use Prim.Native.Nat.{ℕ, zero, suc, _*_, _/_, _%_, _^_, _<_}
+use Prim.Native.Nat.{ℕ, zero, suc, _+_, _*_, _/_, _%_, _^_, _<_}
 use mathlib.Core.List.{List, [], _∷_, _++_}
 use lib.ListN.{length}
 use Rattle.channel.specs.Sheet.{Terminal, Sheet}
 use Rattle.trailer.specs.declared.Part.{Part}
 use Rattle.trailer.specs.declared.Trailer.{Trailer}
+use Rattle.trailer.specs.Trailer.{trailerSize}
 use Rattle.format.specs.Format.{recordSize}
 
 -- "Little-endian": n in k bytes
@@ -41,6 +42,10 @@ sectionsBytes s = sectionBytes (s .top) ++ sectionBytes (s .bottom)
 -- a sheet with this mark
 unfoldable pub sheetBytes : List ℕ → Sheet → List ℕ
 sheetBytes mark s = sectionsBytes s ++ trailerBytes (topFirst (s .columns) (length (s .top)) (length (s .bottom))) mark
+
+-- "file length 12(p+q)+12"
+abbrev pub sheetSize : ℕ → ℕ → ℕ
+sheetSize p q = recordSize * (p + q) + trailerSize
 
 -- the numbers of a terminal fit their bytes
 pub record EncodableTerminal (t : Terminal) : Type 0 where

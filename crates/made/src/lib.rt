@@ -3,12 +3,12 @@ use refusals::Refusal;
 ghost use mathlib.Core.Path.{_≡_};
 ghost use Rattle.made.specs.Numbers.{numberOf, lengthOf};
 
-// The length of the sheet that was written, or why there is none: its form or its nets would be refused, a module is out of shape or has a
+// The length of the sheet that was written, or why there is none: its form or its nets would be refused, a module breaks its rule or has a
 // left edge outside the channel, or the sheet buffer is too short.
 pub enum Made {
     Written(usize),
     Sheet(Refusal),
-    Shape,
+    Module,
     Edge,
     SheetBuffer,
 }
@@ -20,7 +20,7 @@ pub fn number_of(answer: Made) -> u8
     match answer {
         Made::Written(_) => 0,
         Made::Sheet(why) => refusals::number_of(why),
-        Made::Shape => 16,
+        Made::Module => 16,
         Made::Edge => 17,
         Made::SheetBuffer => 9,
     }
@@ -33,7 +33,7 @@ pub fn length_of(answer: Made) -> usize
     match answer {
         Made::Written(length) => length,
         Made::Sheet(_) => 0,
-        Made::Shape => 0,
+        Made::Module => 0,
         Made::Edge => 0,
         Made::SheetBuffer => 0,
     }

@@ -4,7 +4,7 @@ use Prim.Native.Nat.{ℕ, _+_}
 use mathlib.Core.List.{List}
 use mathlib.Core.Bool.{_&&_}
 use lib.ListN.{length}
-use Rattle.modules.specs.Modules.{Module, pinCount, every, rising?, shaped?, allShaped?, within?, pinsNamed?, named?}
+use Rattle.modules.specs.Modules.{Module, pinCount, every, rising?, valid?, allValid?, within?, pinsNamed?, named?}
 use Rattle.module_check.specs.declared.Tests.{Tests}
 use Rattle.module_check.specs.declared.PinTests.{PinTests}
 
@@ -13,19 +13,19 @@ pinTestsOf m = record { rising = rising? (m .width) 0 (m .pins); named = pinsNam
 
 -- of one module
 abbrev pub moduleTests : ℕ → Module → Tests
-moduleTests l m = record { pins = length (m .pins); shaped = shaped? m; within = within? l m; named = named? m }
+moduleTests l m = record { pins = length (m .pins); valid = valid? m; within = within? l m; named = named? m }
 
 -- of modules, however many
 abbrev pub allTests : ℕ → List Module → Tests
 allTests l ms =
-    record { pins = pinCount ms; shaped = every shaped? ms; within = every (within? l) ms; named = every named? ms }
+    record { pins = pinCount ms; valid = every valid? ms; within = every (within? l) ms; named = every named? ms }
 
 -- of some modules and others
-abbrev pub joined : Tests → Tests → Tests
-joined t u =
+abbrev pub combined : Tests → Tests → Tests
+combined t u =
     record {
       pins = t .pins + u .pins;
-      shaped = t .shaped && u .shaped;
+      valid = t .valid && u .valid;
       within = t .within && u .within;
       named = t .named && u .named;
     }
@@ -33,4 +33,4 @@ joined t u =
 -- of a side of modules in a channel of l columns
 abbrev pub testsOf : ℕ → List Module → Tests
 testsOf l ms =
-    record { pins = pinCount ms; shaped = allShaped? ms; within = every (within? l) ms; named = every named? ms }
+    record { pins = pinCount ms; valid = allValid? ms; within = every (within? l) ms; named = every named? ms }

@@ -9,12 +9,12 @@ ghost use mathlib.Core.Bool.{_&&_};
 ghost use Prim.Native.Nat.{_+_, _-_, _*_, _^_, _≤_, _<_};
 ghost use lib.ListN.{length};
 ghost use Rattle.modules.specs.Bytes.{pinSize, moduleOf, modulesIn};
-ghost use Rattle.module_check.specs.Tests.{pinTestsOf, moduleTests, joined, testsOf};
+ghost use Rattle.module_check.specs.Tests.{pinTestsOf, moduleTests, combined, testsOf};
 
-// The tests of a side, and the number of its pins.
+// What 16, 17 and 6 ask of a side: its modules are valid, within the channel and named; and the number of its pins.
 pub struct Tests {
     pub pins: usize,
-    pub shaped: bool,
+    pub valid: bool,
     pub within: bool,
     pub named: bool,
 }
@@ -78,27 +78,27 @@ fn check_module(side: &[u8], head: Head, columns: usize) -> Tests
     let beyond = names_above(head.edges, last_edge(columns, head.width as usize));
     Tests {
         pins: head.count,
-        shaped: both(wide, some),
+        valid: both(wide, some),
         within: !beyond,
         named: pins.named,
     }
 }
 
 // The tests of some modules and of others.
-pub fn join(a: Tests, b: Tests) -> Tests
+pub fn combine(a: Tests, b: Tests) -> Tests
     requires { ⌜ a .pins + b .pins < 2 ^ 64 ⌝ }
-    ensures { λ r. ⌜ r ≡ joined a b ⌝ }
+    ensures { λ r. ⌜ r ≡ combined a b ⌝ }
 {
     Tests {
         pins: a.pins + b.pins,
-        shaped: both(a.shaped, b.shaped),
+        valid: both(a.valid, b.valid),
         within: both(a.within, b.within),
         named: both(a.named, b.named),
     }
 }
 
 // The tests of a side in a channel of so many columns.
-pub fn check_side(side: &[u8], columns: usize) -> Tests
+pub fn check_modules(side: &[u8], columns: usize) -> Tests
     requires { ⌜ columns ≤ 64 ⌝ }
     ensures { λ r. ⌜ (r ≡ testsOf columns (modulesIn (now (side .entry)))) × (r .pins ≤ length (now (side .entry))) ⌝ }
 {
@@ -106,19 +106,19 @@ pub fn check_side(side: &[u8], columns: usize) -> Tests
     let mut count = 0usize;
     let mut all = Tests {
         pins: 0,
-        shaped: true,
+        valid: true,
         within: true,
         named: true,
     };
     while at < side.len() {
         let head = head_in(side, at);
-        all = join(all, check_module(side, head, columns));
+        all = combine(all, check_module(side, head, columns));
         count += 1;
         at = head.end;
     }
     Tests {
         pins: all.pins,
-        shaped: both(all.shaped, count <= 16),
+        valid: both(all.valid, count <= 16),
         within: all.within,
         named: all.named,
     }

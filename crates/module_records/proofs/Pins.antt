@@ -18,7 +18,7 @@ use Rattle.modules.specs.declared.Head.{Head}
 use Rattle.modules.specs.Modules.{lastOffset, innerTerminals, rising?}
 use Rattle.modules.specs.Bytes.{pinSize, pinAt, pinsFrom, moduleOf}
 use Rattle.modules.proofs.Lists.{length-pins}
-use Rattle.modules.proofs.Shapes.{rises, rising-last}
+use Rattle.modules.proofs.Sound.{rises, rising-last}
 use Rattle.modules.proofs.Terminals.{length-inner}
 use Rattle.module_records.specs.Writable.{Room, Later, Writable}
 
@@ -51,8 +51,8 @@ length-later edges before b i n =
 pub module-pins :
     (b : List ℕ) (h : Head) → Writable (moduleOf b h)
     → (1 ≤ h .count) × Later (h .width) (h .edges) 0 (pinsFrom b (h .start) (h .count))
-module-pins b h (room, shaped) =
-    let (_, some) = and-eq-true-iff (leb 1 (h .width) && leb (h .width) 64) _ .0 shaped in
+module-pins b h (room, valid) =
+    let (_, some) = and-eq-true-iff (leb 1 (h .width) && leb (h .width) 64) _ .0 valid in
     let (count, rising) =
     and-eq-true-iff (leb 1 (length (pinsFrom b (h .start) (h .count)))) (rising? (h .width) 0 (pinsFrom b (h .start) (h .count))) .0 some in
     (omega (arith, leb-true 1 (length (pinsFrom b (h .start) (h .count))) count, length-pins b (h .start) (h .count)), (room, rising))

@@ -5,7 +5,7 @@ use mathlib.Core.List.{List, [], _∷_}
 use mathlib.Core.Path.{_≡_}
 use mathlib.Core.Bool.{true}
 use Rattle.modules.specs.declared.Pin.{Pin}
-use Rattle.modules.specs.Modules.{Module, rising?, shaped?}
+use Rattle.modules.specs.Modules.{Module, rising?, valid?}
 
 -- a set of left edges, moved right to the module's last column, fits 8 bytes
 abbrev pub Room : ℕ → ℕ → Type 0
@@ -16,7 +16,7 @@ abbrev pub Later : ℕ → ℕ → ℕ → List Pin → Type 0
 Later width edges before ps = Room width edges × (rising? width before ps ≡ true)
 
 abbrev pub Writable : Module → Type 0
-Writable m = Room (m .width) (m .edges) × (shaped? m ≡ true)
+Writable m = Room (m .width) (m .edges) × (valid? m ≡ true)
 
 abbrev pub AllWritable : List Module → Type 0
 AllWritable [] = Unit {0}

@@ -94,7 +94,7 @@ fn gap_of(side: &[u8], head: Head) -> u8
 }
 
 // The records of a side.
-pub fn put_side(out: &mut [u8], at: usize, side: &[u8]) -> usize
+pub fn put_modules(out: &mut [u8], at: usize, side: &[u8]) -> usize
     requires { ⌜ AllWritable (modulesIn (now side)) × (at + recordSize * pinCount (modulesIn (now side)) ≤ length (now out)) ⌝ }
     ensures { λ r. ⌜ Wrote (now (out .entry)) at (sectionBytes (sideTerminals (modulesIn (now (side .entry))))) (now (out .exit)) r ⌝ }
 {

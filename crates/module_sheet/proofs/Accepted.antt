@@ -11,20 +11,21 @@ use lib.Dec.{leb}
 use lib.Pow.{pow-mono}
 use borrow.Author.Tests.{leb-true, not-true}
 use Rattle.refusals.specs.declared.Refusal.the-variants.{Length, Count, Net}
-use Rattle.modules.specs.Modules.{Module, pinCount, every, shaped?, allShaped?, within?, named?}
+use Rattle.encode.specs.Encode.{sheetSize}
+use Rattle.modules.specs.Modules.{Module, pinCount, every, valid?, allValid?, within?, named?}
 use Rattle.modules.proofs.Moved.{moved-fits}
-use Rattle.modules.proofs.Shapes.{shapes}
-use Rattle.module_check.specs.Tests.{testsOf, joined}
+use Rattle.modules.proofs.Sound.{valid-parts}
+use Rattle.module_check.specs.Tests.{testsOf, combined}
 use Rattle.module_records.specs.Writable.{AllWritable}
 use Rattle.made.specs.declared.Made.{Made}
-use Rattle.made.specs.declared.Made.the-variants.{Written, Sheet as Unsound, Shape, Edge, SheetBuffer}
+use Rattle.made.specs.declared.Made.the-variants.{Written, Sheet as Unsound, Module as Invalid, Edge, SheetBuffer}
 use Rattle.made.specs.Numbers.{numberOf}
-use Rattle.module_sheet.specs.Answer.{sheetSize, unless, answerOf, answerIn}
+use Rattle.module_sheet.specs.Answer.{unless, answerOf, answerIn}
 
 pub record Accepted (l : ℕ) (top bottom : List Module) (room : ℕ) : Type 0 where
   pub answer : answerIn l top bottom room ≡ Written (sheetSize (pinCount top) (pinCount bottom))
   pub columns : (1 ≤ l) × (l ≤ 64)
-  pub shapes : (every shaped? top ≡ true) × (every shaped? bottom ≡ true)
+  pub valid : (every valid? top ≡ true) × (every valid? bottom ≡ true)
   pub within : (every (within? l) top ≡ true) × (every (within? l) bottom ≡ true)
   pub counts : (pinCount top ≤ 64) × (pinCount bottom ≤ 64)
   pub named : (every named? top ≡ true) × (every named? bottom ≡ true)
@@ -38,24 +39,24 @@ passes false why next h e = absurd (h e)
 pub accepted : (l : ℕ) (top bottom : List Module) (room : ℕ) → numberOf (answerIn l top bottom room) ≡ 0 → Accepted l top bottom room
 unfolding answerIn answerOf
 accepted l top bottom room h =
-    let t = joined (testsOf l top) (testsOf l bottom) in
+    let t = combined (testsOf l top) (testsOf l bottom) in
     let p : ℕ = pinCount top in
     let q : ℕ = pinCount bottom in
     let (e₃, h₁₆) = passes (leb 1 l && leb l 64) (Unsound Length) _ (λ e. omega arith) h in
-    let (e₁₆, h₁₇) = passes (t .shaped) Shape _ (λ e. omega arith) h₁₆ in
+    let (e₁₆, h₁₇) = passes (t .valid) Invalid _ (λ e. omega arith) h₁₆ in
     let (e₁₇, h₄) = passes (t .within) Edge _ (λ e. omega arith) h₁₇ in
     let (e₄, h₆) = passes (leb p 64 && leb q 64) (Unsound Count) _ (λ e. omega arith) h₄ in
     let (e₆, h₉) = passes (t .named) (Unsound Net) _ (λ e. omega arith) h₆ in
     let (e₉, _) = passes (leb (sheetSize p q) room) SheetBuffer (Written (sheetSize p q)) (λ e. omega arith) h₉ in
     let (low, high) = and-eq-true-iff (leb 1 l) (leb l 64) .0 e₃ in
-    let (st, sb) = and-eq-true-iff (allShaped? top) (allShaped? bottom) .0 e₁₆ in
+    let (st, sb) = and-eq-true-iff (allValid? top) (allValid? bottom) .0 e₁₆ in
     let (few, few') = and-eq-true-iff (leb p 64) (leb q 64) .0 e₄ in
     record {
       answer = rw (e₃, e₁₆, e₁₇, e₄, e₆, e₉);
       columns = (leb-true 1 l low, leb-true l 64 high);
-      shapes = (
-        and-eq-true-iff (every shaped? top) (leb (length top) 16) .0 st .0,
-        and-eq-true-iff (every shaped? bottom) (leb (length bottom) 16) .0 sb .0,
+      valid = (
+        and-eq-true-iff (every valid? top) (leb (length top) 16) .0 st .0,
+        and-eq-true-iff (every valid? bottom) (leb (length bottom) 16) .0 sb .0,
       );
       within = and-eq-true-iff _ _ .0 e₁₇;
       counts = (leb-true p 64 few, leb-true q 64 few');
@@ -65,11 +66,11 @@ accepted l top bottom room h =
 
 -- modules that 16 and 17 leave can be written
 pub all-writable :
-    (l : ℕ) → l ≤ 64 → (ms : List Module) → every shaped? ms ≡ true → every (within? l) ms ≡ true → AllWritable ms
+    (l : ℕ) → l ≤ 64 → (ms : List Module) → every valid? ms ≡ true → every (within? l) ms ≡ true → AllWritable ms
 all-writable l short [] h e = tt
 all-writable l short (m ∷ ms) h e =
-    let (one, rest) = and-eq-true-iff (shaped? m) (every shaped? ms) .0 h in
+    let (one, rest) = and-eq-true-iff (valid? m) (every valid? ms) .0 h in
     let (inside, others) = and-eq-true-iff (within? l m) (every (within? l) ms) .0 e in
-    let (some, wide) = shapes m one .width in
+    let (some, wide) = valid-parts m one .width in
     let moved = moved-fits l (m .width) (m .edges) (m .width) some (omega arith) (not-true _ inside) in
     (((wide, lt-of-lt-of-le moved (pow-mono {j = 64} short)), one), all-writable l short ms rest others)

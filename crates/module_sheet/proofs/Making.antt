@@ -1,7 +1,7 @@
 -- A refusal leaves the sheet buffer, and a sheet that was written is read back.
 -- Assumes nothing.
 use Prim.Native.Nat.{ℕ, _+_, _≤_, _<_}
-use mathlib.Core.Path.{_≡_, refl, sym, _∙_, ap}
+use mathlib.Core.Path.{_≡_, refl, sym, _∙_, ap, ap₂}
 use mathlib.Core.List.{List, _++_}
 use native.Mathlib.Omega.{arith}
 use native.Mathlib.Nat.{zero-add}
@@ -11,28 +11,28 @@ use borrow.Author.Tests.{le-leb}
 use Rattle.channel.specs.Sheet.{Sheet}
 use Rattle.text.specs.Writing.{Wrote}
 use Rattle.trailer.specs.Trailer.{CP}
-use Rattle.encode.specs.Encode.{sheetBytes}
+use Rattle.encode.specs.Encode.{sheetBytes, sheetSize}
 use Rattle.encode.proofs.Lengths.{length-sheet}
 use Rattle.encode.proofs.Encoded.{read-encoded}
 use Rattle.soundness.specs.Read.{read}
 use Rattle.soundness.specs.Read.Read.{sound}
-use Rattle.modules.specs.Modules.{Module, pinCount, sideTerminals, moduleSheet}
+use Rattle.modules.specs.Modules.{Module, pinCount, moduleSheet}
 use Rattle.modules.specs.Bytes.{modulesIn}
-use Rattle.modules.proofs.Shapes.{sound-modules}
+use Rattle.modules.proofs.Sound.{sound-modules}
 use Rattle.modules.proofs.Terminals.{length-terminals}
 use Rattle.module_check.specs.declared.Tests.{Tests}
-use Rattle.module_check.specs.Tests.{testsOf, joined}
+use Rattle.module_check.specs.Tests.{testsOf, combined}
 use Rattle.made.specs.declared.Made.{Made}
-use Rattle.made.specs.declared.Made.the-variants.{Written, Sheet as Unsound, Shape, Edge, SheetBuffer}
+use Rattle.made.specs.declared.Made.the-variants.{Written, Sheet as Unsound, Module as Invalid, Edge, SheetBuffer}
 use Rattle.made.specs.Numbers.{numberOf, lengthOf}
-use Rattle.module_sheet.specs.Answer.{sheetSize, answerOf, answerIn, madeOf, withSheet, sheetAfter, Makes}
+use Rattle.module_sheet.specs.Answer.{answerOf, answerIn, madeOf, withSheet, sheetAfter, Makes}
 use Rattle.module_sheet.proofs.Accepted.{Accepted}
 use Rattle.module_sheet.proofs.Sound.{modules-sound, modules-encodable, side-fits}
 
 -- the answer, from the tests of the two sides
 pub made-of :
     (l : ℕ) (top bottom : List ℕ) (room : ℕ) (t u v : Tests) (r : Made) → 1 ≤ l → l ≤ 64 → t ≡ testsOf l (modulesIn top)
-    → u ≡ testsOf l (modulesIn bottom) → v ≡ joined t u → r ≡ answerOf v (t .pins) (u .pins) room → r ≡ madeOf l top bottom room
+    → u ≡ testsOf l (modulesIn bottom) → v ≡ combined t u → r ≡ answerOf v (t .pins) (u .pins) room → r ≡ madeOf l top bottom room
 unfolding answerIn
 made-of l top bottom room t u v r low high et eu ev er = er ∙ rw (ev, et, eu, le-leb 1 l low, le-leb l 64 high)
 
@@ -40,7 +40,7 @@ made-of l top bottom room t u v r low high et eu ev er = er ∙ rw (ev, et, eu, 
 kept-sheet : (r : Made) (bytes old : List ℕ) → (numberOf r ≡ 0 → ⊥) → withSheet r bytes old ≡ old
 kept-sheet (Written n) bytes old h = absurd (h refl)
 kept-sheet (Unsound why) bytes old h = refl
-kept-sheet Shape bytes old h = refl
+kept-sheet Invalid bytes old h = refl
 kept-sheet Edge bytes old h = refl
 kept-sheet SheetBuffer bytes old h = refl
 
@@ -62,10 +62,8 @@ makes-none l top bottom sheet r e h =
 pub length-made :
     (l : ℕ) (top bottom : List Module) → length (sheetBytes CP (moduleSheet l top bottom)) ≡ sheetSize (pinCount top) (pinCount bottom)
 length-made l top bottom =
-    let size = length-sheet CP (moduleSheet l top bottom) in
-    let p : length (sideTerminals top) ≡ pinCount top = length-terminals top in
-    let q : length (sideTerminals bottom) ≡ pinCount bottom = length-terminals bottom in
-    size ∙ rw (p, q) (omega arith)
+    length-sheet CP (moduleSheet l top bottom) refl
+    ∙ ap₂ (λ (p q : ℕ). sheetSize p q) (length-terminals top) (length-terminals bottom)
 
 -- a sheet: the bytes of both sides are below 256, so the nets fit two bytes each
 module _
@@ -87,8 +85,8 @@ module _
 
   reads-sheet : read (sheetBytes CP s) ≡ sound s
   reads-sheet =
-      let st = sound-modules l (modulesIn top) (ok .shapes .0) (ok .within .0) in
-      let sb = sound-modules l (modulesIn bottom) (ok .shapes .1) (ok .within .1) in
+      let st = sound-modules l (modulesIn top) (ok .valid .0) (ok .within .0) in
+      let sb = sound-modules l (modulesIn bottom) (ok .valid .1) (ok .within .1) in
       let ft = side-fits top below in
       let fb = side-fits bottom below' in
       read-encoded s

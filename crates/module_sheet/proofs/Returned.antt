@@ -10,17 +10,17 @@ use lib.Dec.{leb}
 use borrow.Author.Tests.{le-leb, lt-leb, leb-true}
 use Rattle.refusals.specs.declared.Refusal.the-variants.{Length, Count, Net}
 use Rattle.trailer.specs.Trailer.{CP}
-use Rattle.encode.specs.Encode.{sheetBytes}
+use Rattle.encode.specs.Encode.{sheetBytes, sheetSize}
 use Rattle.soundness.proofs.Laws.{read-sound}
-use Rattle.modules.specs.Modules.{Module, pinCount, every, shaped?, allShaped?, within?, named?, moduleSheet}
+use Rattle.modules.specs.Modules.{Module, pinCount, every, valid?, allValid?, within?, named?, moduleSheet}
 use Rattle.modules.specs.Bytes.{modulesIn}
-use Rattle.modules.proofs.Shapes.{SoundModules, sound-modules}
+use Rattle.modules.proofs.Sound.{SoundModules, sound-modules}
 use Rattle.placements.proofs.Matches.{sheet-matches}
 use Rattle.made.specs.declared.Made.{Made}
-use Rattle.made.specs.declared.Made.the-variants.{Written, Sheet as Unsound, Shape, Edge, SheetBuffer}
+use Rattle.made.specs.declared.Made.the-variants.{Written, Sheet as Unsound, Module as Invalid, Edge, SheetBuffer}
 use Rattle.made.specs.Numbers.{numberOf, lengthOf}
-use Rattle.module_sheet.specs.Answer.{sheetSize, unless, answerOf, answerIn, madeOf, withSheet, sheetAfter, Makes}
-use Rattle.module_sheet.specs.Returned.{Refuses, InChannel, Shapes, Within, Counts, Named, Gives, Returned}
+use Rattle.module_sheet.specs.Answer.{unless, answerOf, answerIn, madeOf, withSheet, sheetAfter, Makes}
+use Rattle.module_sheet.specs.Returned.{Refuses, InChannel, AllValid, Within, Counts, Named, Gives, Returned}
 use Rattle.module_sheet.proofs.Making.{length-made}
 
 -- a test of both sides that fails, and the answer where a test fails and where it holds
@@ -46,8 +46,8 @@ module _ (l : ℕ) (top bottom sheet sheet' : List ℕ) (r : Made) (makes : Make
   size = sheetSize (pinCount tops) (pinCount bottoms)
 
   -- the tests, and the answers in their order from each of them on
-  abbrev shaped : Bool
-  shaped = allShaped? tops && allShaped? bottoms
+  abbrev valid : Bool
+  valid = allValid? tops && allValid? bottoms
 
   abbrev within : Bool
   within = every (within? l) tops && every (within? l) bottoms
@@ -71,7 +71,7 @@ module _ (l : ℕ) (top bottom sheet sheet' : List ℕ) (r : Made) (makes : Make
   from17 = unless within Edge from4
 
   abbrev from16 : Made
-  from16 = unless shaped Shape from17
+  from16 = unless valid Invalid from17
 
   all : madeOf l top bottom (length sheet) ≡ unless (leb 1 l && leb l 64) (Unsound Length) from16
   unfolding answerIn answerOf
@@ -98,12 +98,12 @@ module _ (l : ℕ) (top bottom sheet sheet' : List ℕ) (r : Made) (makes : Make
     to16 : madeOf l top bottom (length sheet) ≡ from16
     to16 = all ∙ holds (leb 1 l && leb l 64) (Unsound Length) from16 (rw (le-leb 1 l (inside .0), le-leb l 64 (inside .1)))
 
-    shape : (Shapes tops bottoms → ⊥) → Refuses 16 (numberOf r) (lengthOf r) sheet sheet'
-    shape h = refuses Shape (to16 ∙ fails shaped Shape from17 (not-both _ _ h)) refl (λ b o. refl)
+    modules : (AllValid tops bottoms → ⊥) → Refuses 16 (numberOf r) (lengthOf r) sheet sheet'
+    modules h = refuses Invalid (to16 ∙ fails valid Invalid from17 (not-both _ _ h)) refl (λ b o. refl)
 
-    module _ (shapes : Shapes tops bottoms) where
+    module _ (all-valid : AllValid tops bottoms) where
       to17 : madeOf l top bottom (length sheet) ≡ from17
-      to17 = to16 ∙ holds shaped Shape from17 (rw (shapes .0, shapes .1))
+      to17 = to16 ∙ holds valid Invalid from17 (rw (all-valid .0, all-valid .1))
 
       edge : (Within l tops bottoms → ⊥) → Refuses 17 (numberOf r) (lengthOf r) sheet sheet'
       edge h = refuses Edge (to17 ∙ fails within Edge from4 (not-both _ _ h)) refl (λ b o. refl)
@@ -150,11 +150,11 @@ module _ (l : ℕ) (top bottom sheet sheet' : List ℕ) (r : Made) (makes : Make
                   whole = read-sound _ _ reads;
                   reads = rw written reads;
                   matches =
-                      sheet-matches l tops bottoms (inside .1) (side tops (shapes .0) (edges .0)) (side bottoms (shapes .1) (edges .1));
+                      sheet-matches l tops bottoms (inside .1) (side tops (all-valid .0) (edges .0)) (side bottoms (all-valid .1) (edges .1));
                 }
               where
-                side : (ms : List Module) → allShaped? ms ≡ true → every (within? l) ms ≡ true → SoundModules l ms
-                side ms s e = sound-modules l ms (and-eq-true-iff (every shaped? ms) (leb (length ms) 16) .0 s .0) e
+                side : (ms : List Module) → allValid? ms ≡ true → every (within? l) ms ≡ true → SoundModules l ms
+                side ms s e = sound-modules l ms (and-eq-true-iff (every valid? ms) (leb (length ms) 16) .0 s .0) e
 
   pub one-making : Returned l top bottom sheet sheet' (numberOf r) (lengthOf r)
-  one-making = record { channel = channel; shape = shape; edge = edge; count = count; net = net; short = short; gives = gives }
+  one-making = record { channel = channel; modules = modules; edge = edge; count = count; net = net; short = short; gives = gives }

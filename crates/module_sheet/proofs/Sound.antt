@@ -19,7 +19,7 @@ use Rattle.modules.specs.Modules.{Module, pinCount, firstOffset, gapOf, pinTerm
 use Rattle.modules.specs.Modules.{firstLeast, firstGreatest, terminalsBehind, sideTerminals, moduleSheet, every, pinsNamed?, named?}
 use Rattle.modules.specs.Bytes.{pinSize, pinAt, pinsFrom, headIn, moduleOf, modulesFrom, modulesAt, modulesIn}
 use Rattle.modules.proofs.Moved.{moved-fits}
-use Rattle.modules.proofs.Shapes.{Rising, rising-last, offsets, SoundModules}
+use Rattle.modules.proofs.Sound.{Rising, rising-last, offsets, SoundModules}
 use Rattle.modules.proofs.Terminals.{length-terminals}
 
 -- a terminal that is sound and whose numbers fit their bytes
@@ -97,13 +97,13 @@ behind-good :
     → Each (Good l) isFirst (terminalsBehind isFirst gap ms)
 behind-good l short isFirst gap [] h s n f = tt
 behind-good l short isFirst gap (m ∷ ms) h s n f =
-    let (one, low, high) = offsets m (s .0 .shape) in
-    let (_, wide) = s .0 .shape .width in
+    let (one, low, high) = offsets m (s .0 .valid) in
+    let (_, wide) = s .0 .valid .width in
     let (named, rest) = and-eq-true-iff (named? m) (every named? ms) .0 n in
     let (range, lo, hi) = first-pair isFirst (m .edges) gap (firstOffset (m .pins)) h one (omega arith) in
     pins-good l (m .width) (m .edges) short (s .0 .edges) wide (terminalsBehind false (gapOf m) ms)
-    (behind-good l short false (gapOf m) ms (omega arith) (s .1) rest (f .1)) isFirst _ _ (m .pins) (s .0 .shape .some)
-    (s .0 .shape .rising) named (f .0) range lo hi
+    (behind-good l short false (gapOf m) ms (omega arith) (s .1) rest (f .1)) isFirst _ _ (m .pins) (s .0 .valid .some)
+    (s .0 .valid .rising) named (f .0) range lo hi
 
 -- both sides, within their limits
 module _

@@ -1,27 +1,22 @@
 -- What two sides of modules come to: the sheet that is written, or the first refusal that applies (document 02, T-02).
 -- Assumes nothing.
-use Prim.Native.Nat.{ℕ, _+_, _*_}
+use Prim.Native.Nat.{ℕ}
 use mathlib.Core.Path.{_≡_}
 use mathlib.Core.List.{List, _++_}
 use mathlib.Core.Bool.{Bool, true, false, _&&_}
 use lib.ListN.{length, take, drop}
 use lib.Dec.{leb}
 use Rattle.refusals.specs.declared.Refusal.the-variants.{Length, Count, Net}
-use Rattle.trailer.specs.Trailer.{trailerSize, CP}
-use Rattle.format.specs.Format.{recordSize}
-use Rattle.encode.specs.Encode.{sheetBytes}
+use Rattle.trailer.specs.Trailer.{CP}
+use Rattle.encode.specs.Encode.{sheetBytes, sheetSize}
 use Rattle.soundness.specs.Read.{read}
 use Rattle.soundness.specs.Read.Read.{sound}
 use Rattle.modules.specs.Modules.{Module, pinCount, moduleSheet}
 use Rattle.modules.specs.Bytes.{modulesIn}
 use Rattle.module_check.specs.declared.Tests.{Tests}
-use Rattle.module_check.specs.Tests.{testsOf, joined}
+use Rattle.module_check.specs.Tests.{testsOf, combined}
 use Rattle.made.specs.declared.Made.{Made}
-use Rattle.made.specs.declared.Made.the-variants.{Written, Sheet as Unsound, Shape, Edge, SheetBuffer}
-
--- "12(p+q)+12"
-abbrev pub sheetSize : ℕ → ℕ → ℕ
-sheetSize p q = recordSize * (p + q) + trailerSize
+use Rattle.made.specs.declared.Made.the-variants.{Written, Sheet as Unsound, Module as Invalid, Edge, SheetBuffer}
 
 -- refused for this reason unless the test holds
 abbrev pub unless : Bool → Made → Made → Made
@@ -32,7 +27,7 @@ unless false why next = why
 -- sides, and of p and q pins
 unfoldable pub answerOf : Tests → ℕ → ℕ → ℕ → Made
 answerOf t p q room =
-    unless (t .shaped) Shape
+    unless (t .valid) Invalid
     (unless (t .within) Edge
     (unless (leb p 64 && leb q 64) (Unsound Count)
     (unless (t .named) (Unsound Net)
@@ -43,7 +38,7 @@ answerOf t p q room =
 unfoldable pub answerIn : ℕ → List Module → List Module → ℕ → Made
 answerIn l top bottom room =
     unless (leb 1 l && leb l 64) (Unsound Length)
-    (answerOf (joined (testsOf l top) (testsOf l bottom)) (pinCount top) (pinCount bottom) room)
+    (answerOf (combined (testsOf l top) (testsOf l bottom)) (pinCount top) (pinCount bottom) room)
 
 -- of the bytes of two sides
 abbrev pub madeOf : ℕ → List ℕ → List ℕ → ℕ → Made
@@ -53,7 +48,7 @@ madeOf l top bottom room = answerIn l (modulesIn top) (modulesIn bottom) room
 abbrev pub withSheet : Made → List ℕ → List ℕ → List ℕ
 withSheet (Written n) bytes old = bytes ++ drop (length bytes) old
 withSheet (Unsound why) bytes old = old
-withSheet Shape bytes old = old
+withSheet Invalid bytes old = old
 withSheet Edge bytes old = old
 withSheet SheetBuffer bytes old = old
 

@@ -8,13 +8,12 @@ use mathlib.Core.Bool.{true}
 use lib.ListN.{length, take, drop}
 use Rattle.channel.specs.Sheet.{Sound}
 use Rattle.trailer.specs.Trailer.{CP}
-use Rattle.encode.specs.Encode.{sheetBytes}
+use Rattle.encode.specs.Encode.{sheetBytes, sheetSize}
 use Rattle.soundness.specs.Read.{read}
 use Rattle.soundness.specs.Read.Read.{sound}
-use Rattle.modules.specs.Modules.{Module, pinCount, every, allShaped?, within?, named?, moduleSheet}
+use Rattle.modules.specs.Modules.{Module, pinCount, every, allValid?, within?, named?, moduleSheet}
 use Rattle.modules.specs.Bytes.{modulesIn}
 use Rattle.placements.specs.Placements.{Matches}
-use Rattle.module_sheet.specs.Answer.{sheetSize}
 
 -- refused with number n: "every refusal leaves that buffer unchanged"
 pub record Refuses (n number written : ℕ) (sheet sheet' : List ℕ) : Type 0 where
@@ -26,8 +25,8 @@ pub record Refuses (n number written : ℕ) (sheet sheet' : List ℕ) : Type 0 w
 abbrev pub InChannel : ℕ → Type 0
 InChannel l = (1 ≤ l) × (l ≤ 64)
 
-abbrev pub Shapes : List Module → List Module → Type 0
-Shapes top bottom = (allShaped? top ≡ true) × (allShaped? bottom ≡ true)
+abbrev pub AllValid : List Module → List Module → Type 0
+AllValid top bottom = (allValid? top ≡ true) × (allValid? bottom ≡ true)
 
 abbrev pub Within : ℕ → List Module → List Module → Type 0
 Within l top bottom =
@@ -51,22 +50,22 @@ pub record Gives (l : ℕ) (top bottom : List Module) (number written : ℕ) (sh
   pub matches : Matches l top bottom
 
 -- all of it: 3, 16, 17, 4, 6, 9, each the first that applies, else the sheet
-pub record Answers (l : ℕ) (top bottom : List Module) (number written : ℕ) (sheet sheet' : List ℕ) : Type 0 where
+pub record Decides (l : ℕ) (top bottom : List Module) (number written : ℕ) (sheet sheet' : List ℕ) : Type 0 where
   pub channel : (InChannel l → ⊥) → Refuses 3 number written sheet sheet'
-  pub shape : InChannel l → (Shapes top bottom → ⊥) → Refuses 16 number written sheet sheet'
-  pub edge : InChannel l → Shapes top bottom → (Within l top bottom → ⊥) → Refuses 17 number written sheet sheet'
+  pub modules : InChannel l → (AllValid top bottom → ⊥) → Refuses 16 number written sheet sheet'
+  pub edge : InChannel l → AllValid top bottom → (Within l top bottom → ⊥) → Refuses 17 number written sheet sheet'
   pub count :
-      InChannel l → Shapes top bottom → Within l top bottom → (Counts top bottom → ⊥) → Refuses 4 number written sheet sheet'
+      InChannel l → AllValid top bottom → Within l top bottom → (Counts top bottom → ⊥) → Refuses 4 number written sheet sheet'
   pub net :
-      InChannel l → Shapes top bottom → Within l top bottom → Counts top bottom → (Named top bottom → ⊥)
+      InChannel l → AllValid top bottom → Within l top bottom → Counts top bottom → (Named top bottom → ⊥)
       → Refuses 6 number written sheet sheet'
   pub short :
-      InChannel l → Shapes top bottom → Within l top bottom → Counts top bottom → Named top bottom
+      InChannel l → AllValid top bottom → Within l top bottom → Counts top bottom → Named top bottom
       → length sheet < sheetSize (pinCount top) (pinCount bottom) → Refuses 9 number written sheet sheet'
   pub gives :
-      InChannel l → Shapes top bottom → Within l top bottom → Counts top bottom → Named top bottom
+      InChannel l → AllValid top bottom → Within l top bottom → Counts top bottom → Named top bottom
       → sheetSize (pinCount top) (pinCount bottom) ≤ length sheet → Gives l top bottom number written sheet sheet'
 
 -- of the bytes of two sides
 abbrev pub Returned : ℕ → List ℕ → List ℕ → List ℕ → List ℕ → ℕ → ℕ → Type 0
-Returned l top bottom sheet sheet' number written = Answers l (modulesIn top) (modulesIn bottom) number written sheet sheet'
+Returned l top bottom sheet sheet' number written = Decides l (modulesIn top) (modulesIn bottom) number written sheet sheet'

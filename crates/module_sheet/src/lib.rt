@@ -4,20 +4,19 @@ use format::RECORD;
 use made::Made;
 use made::number_of;
 use module_check::Tests;
-use module_check::check_side;
-use module_check::join;
-use module_records::put_side;
+use module_check::check_modules;
+use module_check::combine;
+use module_records::put_modules;
 use refusals::Refusal;
 use trailer::Part;
 use trailer::TRAILER;
 use trailer::Trailer;
 ghost use mathlib.Core.Path.{_≡_};
-ghost use Prim.Native.Nat.{_+_, _*_, _≤_};
+ghost use Prim.Native.Nat.{_≤_};
 ghost use lib.ListN.{length};
 ghost use Rattle.text.specs.Writing.{Wrote};
-ghost use Rattle.format.specs.Format.{recordSize};
-ghost use Rattle.trailer.specs.Trailer.{CP, trailerSize};
-ghost use Rattle.encode.specs.Encode.{sheetBytes};
+ghost use Rattle.trailer.specs.Trailer.{CP};
+ghost use Rattle.encode.specs.Encode.{sheetBytes, sheetSize};
 ghost use Rattle.modules.specs.Modules.{pinCount, moduleSheet};
 ghost use Rattle.modules.specs.Bytes.{modulesIn};
 ghost use Rattle.module_records.specs.Writable.{AllWritable};
@@ -27,8 +26,8 @@ ghost use Rattle.module_sheet.specs.Answer.{answerOf, Makes};
 fn answer(all: Tests, p: usize, q: usize, room: usize) -> Made
     ensures { λ r. ⌜ r ≡ answerOf all p q room ⌝ }
 {
-    if !all.shaped {
-        return Made::Shape;
+    if !all.valid {
+        return Made::Module;
     }
     if !all.within {
         return Made::Edge;
@@ -53,12 +52,12 @@ fn answer(all: Tests, p: usize, q: usize, room: usize) -> Made
 fn put_sheet(out: &mut [u8], columns: usize, top: &[u8], p: usize, bottom: &[u8], q: usize) -> usize
     requires { ⌜ AllWritable (modulesIn (now top)) × AllWritable (modulesIn (now bottom))
         × (p ≡ pinCount (modulesIn (now top))) × (q ≡ pinCount (modulesIn (now bottom))) × (p ≤ 64)
-        × (recordSize * (p + q) + trailerSize ≤ length (now out)) ⌝ }
+        × (sheetSize p q ≤ length (now out)) ⌝ }
     ensures { λ r. ⌜ Wrote (now (out .entry)) 0
         (sheetBytes CP (moduleSheet columns (modulesIn (now (top .entry))) (modulesIn (now (bottom .entry))))) (now (out .exit)) r ⌝ }
 {
-    let middle = put_side(out, 0, top);
-    let end = put_side(out, middle, bottom);
+    let middle = put_modules(out, 0, top);
+    let end = put_modules(out, middle, bottom);
     let t = Trailer {
         top: Part { at: 0, count: p },
         bottom: Part {
@@ -80,11 +79,11 @@ pub fn make(columns: usize, top: &[u8], bottom: &[u8], sheet: &mut [u8]) -> Made
     if 64 < columns {
         return Made::Sheet(Refusal::Length);
     }
-    let over = check_side(top, columns);
-    let under = check_side(bottom, columns);
+    let over = check_modules(top, columns);
+    let under = check_modules(bottom, columns);
     let p = over.pins;
     let q = under.pins;
-    let made = answer(join(over, under), p, q, sheet.len());
+    let made = answer(combine(over, under), p, q, sheet.len());
     if number_of(made) == 0 {
         put_sheet(sheet, columns, top, p, bottom, q);
     }

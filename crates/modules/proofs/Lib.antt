@@ -1,4 +1,4 @@
 pub mod Lists
 pub mod Moved
-pub mod Shapes
+pub mod Sound
 pub mod Terminals

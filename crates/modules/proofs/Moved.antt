@@ -12,7 +12,7 @@ use lib.Pow.{pow-pos, pow-add, pow-mono, shl-shr, shl-lt}
 use borrow.Author.Tests.{leb-true, leb-false, not-true}
 use Rattle.channel.specs.Sheet.{namesAbove}
 use Rattle.channel.specs.Assignment.{allows}
-use Rattle.channel.proofs.Sets.{allows-below, names-above-exactly}
+use Rattle.channel.proofs.Sets.{allowed-column, names-above-exactly}
 use Rattle.modules.specs.Modules.{Module, within?}
 
 -- no column at or below k
@@ -43,16 +43,6 @@ moved set k (suc c) =
   where
     next : suc c + k ≡ suc (c + k)
     next = omega arith
-
--- a set that names no column above l allows only the columns 1 to l
-pub allowed-column : (l set c : ℕ) → allows set c ≡ true → namesAbove l set ≡ false → (1 ≤ c) × (c ≤ l)
-allowed-column l set zero h above = absurd (true≢false (sym h))
-allowed-column l set (suc c) h above = (omega arith, decide (leb (suc c) l) refl)
-  where
-    decide : (t : Bool) → leb (suc c) l ≡ t → suc c ≤ l
-    decide true q = leb-true (suc c) l q
-    decide false q =
-        absurd (true≢false (sym h ∙ allows-below set l (suc c) (leb-false (2 ^ l) set above) (leb-false (suc c) l q)))
 
 -- an edge is allowed exactly when the column of a pin at offset o is in the set moved by o − 1
 pub moved-edge : (set o e : ℕ) → 1 ≤ o → allows (set * 2 ^ (o - 1)) (e + o - 1) ≡ allows set e

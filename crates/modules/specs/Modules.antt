@@ -85,12 +85,12 @@ abbrev pub rising? : ℕ → ℕ → List Pin → Bool
 rising? width before [] = leb before width
 rising? width before (p ∷ ps) = ltb before (p .offset) && rising? width (p .offset) ps
 
-abbrev pub shaped? : Module → Bool
-shaped? m = (leb 1 (m .width) && leb (m .width) 64) && (leb 1 (length (m .pins)) && rising? (m .width) 0 (m .pins))
+abbrev pub valid? : Module → Bool
+valid? m = (leb 1 (m .width) && leb (m .width) 64) && (leb 1 (length (m .pins)) && rising? (m .width) 0 (m .pins))
 
 -- and "more than 16 modules"
-abbrev pub allShaped? : List Module → Bool
-allShaped? ms = every shaped? ms && leb (length ms) 16
+abbrev pub allValid? : List Module → Bool
+allValid? ms = every valid? ms && leb (length ms) 16
 
 -- 17: "a left edge outside 1 to L − width + 1"; of a module wider than the channel, any left edge
 abbrev pub within? : ℕ → Module → Bool

@@ -10,8 +10,8 @@ use Rattle.channel.specs.Assignment.{sideFits, fits, topColumns, bottomColumns,
 use Rattle.channel.proofs.Assignments.{side-length}
 use Rattle.modules.specs.Modules.{Module, sideTerminals, moduleSheet, pinCount}
 use Rattle.modules.proofs.Terminals.{length-terminals}
-use Rattle.modules.proofs.Shapes.{SoundModules}
-use Rattle.placements.specs.Placements.{placed?, columnsOf, edgesOf, Edges, placement?, sheetColumns, sheetEdges, Matches}
+use Rattle.modules.proofs.Sound.{SoundModules}
+use Rattle.placements.specs.Placements.{placed?, sideColumns, sideEdges, Edges, placement?, sheetColumns, sheetEdges, Matches}
 use Rattle.placements.proofs.Sides.{side-matches}
 
 module _ (l : ℕ) (top bottom : List Module) where
@@ -34,14 +34,14 @@ module _ (l : ℕ) (top bottom : List Module) where
           let (pt, pb) = and-eq-true-iff (placed? top (es .top)) (placed? bottom (es .bottom)) .0 p in
           let (ct, et) = side-matches l top h st .0 (es .top) pt in
           let (cb, eb) = side-matches l bottom h sb .0 (es .bottom) pb in
-          let size : length (columnsOf top (es .top)) ≡ pinCount top
-          = side-length (sideTerminals top) (columnsOf top (es .top)) ct ∙ length-terminals top in
-          let front = take-at (columnsOf top (es .top)) (columnsOf bottom (es .bottom)) (pinCount top) size in
-          let rest = drop-at (columnsOf top (es .top)) (columnsOf bottom (es .bottom)) (pinCount top) size in (
+          let size : length (sideColumns top (es .top)) ≡ pinCount top
+          = side-length (sideTerminals top) (sideColumns top (es .top)) ct ∙ length-terminals top in
+          let front = take-at (sideColumns top (es .top)) (sideColumns bottom (es .bottom)) (pinCount top) size in
+          let rest = drop-at (sideColumns top (es .top)) (sideColumns bottom (es .bottom)) (pinCount top) size in (
             sides (sheetColumns top bottom es)
                 ∙ ap₂ (λ (x y : List ℕ). sideFits (sideTerminals top) x && sideFits (sideTerminals bottom) y) front rest
                 ∙ and-eq-true-iff _ _ .1 (ct, cb),
-            ap₂ (λ (x y : List ℕ). made x y) (ap (edgesOf top) front ∙ et) (ap (edgesOf bottom) rest ∙ eb),
+            ap₂ (λ (x y : List ℕ). made x y) (ap (sideEdges top) front ∙ et) (ap (sideEdges bottom) rest ∙ eb),
           )
         where
           made : List ℕ → List ℕ → Edges

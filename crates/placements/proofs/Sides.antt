@@ -11,13 +11,14 @@ use lib.Dec.{leb}
 use borrow.Author.Tests.{leb-true, le-leb}
 use Rattle.channel.specs.Sheet.{Terminal}
 use Rattle.channel.specs.Assignment.{allows, laterFit, sideFits}
+use Rattle.channel.proofs.Sets.{allowed-column}
 use Rattle.channel.proofs.Assignments.{later-parts}
 use Rattle.modules.specs.declared.Pin.{Pin}
 use Rattle.modules.specs.Modules.{Module, firstOffset, lastOffset, gapOf, pinTerminal, innerTerminals, pinTerminals}
 use Rattle.modules.specs.Modules.{firstLeast, firstGreatest, terminalsBehind, sideTerminals}
-use Rattle.modules.proofs.Moved.{allowed-column, moved-edge, edge-moved}
-use Rattle.modules.proofs.Shapes.{Rising, offsets, SoundModules}
-use Rattle.placements.specs.Placements.{placedFrom, placed?, pinColumns, columnsOf, edgeOf, edgesOf}
+use Rattle.modules.proofs.Moved.{moved-edge, edge-moved}
+use Rattle.modules.proofs.Sound.{Rising, offsets, SoundModules}
+use Rattle.placements.specs.Placements.{placedFrom, placed?, pinColumns, sideColumns, edgeOf, sideEdges}
 
 -- The first module of a side is tied to nothing, a later one to the column of the last pin before it: the test of their columns, and
 -- where the module may start.
@@ -147,7 +148,7 @@ module _ (l : ℕ) (short : l ≤ 64) where
   placed-fits :
       (isFirst : Bool) (gap before : ℕ) (ms : List Module) (es : List ℕ) → SoundModules l ms
       → placedFrom (startBehind isFirst gap before) ms es ≡ true
-      → fitsBehind isFirst (terminalsBehind isFirst gap ms) before (columnsOf ms es) ≡ true
+      → fitsBehind isFirst (terminalsBehind isFirst gap ms) before (sideColumns ms es) ≡ true
   placed-fits true gap before [] [] s h = refl
   placed-fits false gap before [] [] s h = refl
   placed-fits isFirst gap before [] (e ∷ es) s h = absurd (true≢false (sym h))
@@ -155,29 +156,29 @@ module _ (l : ℕ) (short : l ≤ 64) where
   placed-fits isFirst gap before (m ∷ ms) (e ∷ es) s h =
       let (a, start, f) = placed-parts (startBehind isFirst gap before) m ms e es h in
       let (one, high) = allowed-column (l + 1 - m .width) (m .edges) e a (s .0 .edges) in
-      let (o, ol, lw) = offsets m (s .0 .shape) in
-      let (_, wide) = s .0 .shape .width in
-      pins-fit (m .edges) e (m .width) a one (terminalsBehind false (gapOf m) ms) (columnsOf ms es) isFirst gap before (m .pins)
-      (s .0 .shape .some) (s .0 .shape .rising) start (omega arith)
+      let (o, ol, lw) = offsets m (s .0 .valid) in
+      let (_, wide) = s .0 .valid .width in
+      pins-fit (m .edges) e (m .width) a one (terminalsBehind false (gapOf m) ms) (sideColumns ms es) isFirst gap before (m .pins)
+      (s .0 .valid .some) (s .0 .valid .rising) start (omega arith)
       (placed-fits false (gapOf m) (e + lastOffset 0 (m .pins) - 1) ms es (s .1)
       (ap (λ (k : ℕ). placedFrom k ms es) (next-start (m .width) (lastOffset 0 (m .pins)) e one lw) ∙ f))
 
   edges-back :
-      (start : ℕ) (ms : List Module) (es : List ℕ) → SoundModules l ms → placedFrom start ms es ≡ true → edgesOf ms (columnsOf ms es) ≡ es
+      (start : ℕ) (ms : List Module) (es : List ℕ) → SoundModules l ms → placedFrom start ms es ≡ true → sideEdges ms (sideColumns ms es) ≡ es
   edges-back start [] [] s h = refl
   edges-back start [] (e ∷ es) s h = absurd (true≢false (sym h))
   edges-back start (m ∷ ms) [] s h = absurd (true≢false (sym h))
   edges-back start (m ∷ ms) (e ∷ es) s h =
       let (a, _, f) = placed-parts start m ms e es h in
       ap₂ (λ (x : ℕ) (xs : List ℕ). x ∷ xs)
-      (edge-back (m .width) e (m .pins) (columnsOf ms es) (s .0 .shape .some) (s .0 .shape .rising))
-      (ap (edgesOf ms) (drop-at (pinColumns e (m .pins)) (columnsOf ms es) (length (m .pins)) (length-columns e (m .pins)))
+      (edge-back (m .width) e (m .pins) (sideColumns ms es) (s .0 .valid .some) (s .0 .valid .rising))
+      (ap (sideEdges ms) (drop-at (pinColumns e (m .pins)) (sideColumns ms es) (length (m .pins)) (length-columns e (m .pins)))
       ∙ edges-back (e + m .width) ms es (s .1) f)
 
   fits-placed :
       (isFirst : Bool) (gap before : ℕ) (ms : List Module) (cs : List ℕ) → SoundModules l ms
       → fitsBehind isFirst (terminalsBehind isFirst gap ms) before cs ≡ true
-      → (placedFrom (startBehind isFirst gap before) ms (edgesOf ms cs) ≡ true) × (columnsOf ms (edgesOf ms cs) ≡ cs)
+      → (placedFrom (startBehind isFirst gap before) ms (sideEdges ms cs) ≡ true) × (sideColumns ms (sideEdges ms cs) ≡ cs)
   fits-placed isFirst gap before [] [] s h = (refl, refl)
   fits-placed true gap before [] (c ∷ cs) s h = absurd (true≢false (sym h))
   fits-placed false gap before [] (c ∷ cs) s h = absurd (true≢false (sym h))
@@ -186,13 +187,13 @@ module _ (l : ℕ) (short : l ≤ 64) where
       let last : ℕ = lastOffset 0 (m .pins) in
       let rest = drop (length (m .pins)) cs in
       let there =
-      pins-back (m .edges) (m .width) (terminalsBehind false (gapOf m) ms) isFirst gap before (m .pins) cs (s .0 .shape .some)
-      (s .0 .shape .rising) h in
+      pins-back (m .edges) (m .width) (terminalsBehind false (gapOf m) ms) isFirst gap before (m .pins) cs (s .0 .valid .some)
+      (s .0 .valid .rising) h in
       let (one, high) = allowed-column (l + 1 - m .width) (m .edges) e (there .allowed) (s .0 .edges) in
-      let (o, ol, lw) = offsets m (s .0 .shape) in
+      let (o, ol, lw) = offsets m (s .0 .valid) in
       let (placed, columns) = fits-placed false (gapOf m) (e + last - 1) ms rest (s .1) (there .behind) in (
-        placed-test (startBehind isFirst gap before) m ms e (edgesOf ms rest) (there .allowed) (there .start)
-            (ap (λ (k : ℕ). placedFrom k ms (edgesOf ms rest)) (sym (next-start (m .width) last e one lw)) ∙ placed),
+        placed-test (startBehind isFirst gap before) m ms e (sideEdges ms rest) (there .allowed) (there .start)
+            (ap (λ (k : ℕ). placedFrom k ms (sideEdges ms rest)) (sym (next-start (m .width) last e one lw)) ∙ placed),
         ap (λ (xs : List ℕ). pinColumns e (m .pins) ++ xs) columns ∙ sym (there .columns),
       )
 
@@ -200,8 +201,8 @@ module _ (l : ℕ) (short : l ≤ 64) where
 -- columns back.
 pub side-matches :
     (l : ℕ) (ms : List Module) → l ≤ 64 → SoundModules l ms
-    → ((es : List ℕ) → placed? ms es ≡ true → (sideFits (sideTerminals ms) (columnsOf ms es) ≡ true) × (edgesOf ms (columnsOf ms es) ≡ es))
-    × ((cs : List ℕ) → sideFits (sideTerminals ms) cs ≡ true → (placed? ms (edgesOf ms cs) ≡ true) × (columnsOf ms (edgesOf ms cs) ≡ cs))
+    → ((es : List ℕ) → placed? ms es ≡ true → (sideFits (sideTerminals ms) (sideColumns ms es) ≡ true) × (sideEdges ms (sideColumns ms es) ≡ es))
+    × ((cs : List ℕ) → sideFits (sideTerminals ms) cs ≡ true → (placed? ms (sideEdges ms cs) ≡ true) × (sideColumns ms (sideEdges ms cs) ≡ cs))
 unfolding placed?
 side-matches l ms h s =
     (λ es p. (placed-fits l h true 0 0 ms es s p, edges-back l h 0 ms es s p), λ cs f. fits-placed l h true 0 0 ms cs s f)

@@ -7,7 +7,7 @@ use mathlib.Core.Bool.{true, false}
 use Rattle.little.specs.Little.{little}
 use Rattle.modules.specs.Modules.{Module, sideTerminals}
 use Rattle.modules.specs.Bytes.{pinAt, headIn, modulesAt, modulesIn}
-use Rattle.placements.specs.Placements.{placed?, columnsOf, edgesOf}
+use Rattle.placements.specs.Placements.{placed?, sideColumns, sideEdges}
 
 -- width 3, left edges 1 to 3, pins of net 5 at 1 and of net 6 at 3; width 2, left edges 3 and 4, a pin of net 258 at 2
 abbrev side : List ℕ
@@ -45,5 +45,5 @@ pub overlap : (placed? modules (1 ∷ 3 ∷ []) ≡ false) × (placed? modules (
 unfolding placed?
 overlap = (refl, refl)
 
-pub there-and-back : (columnsOf modules (1 ∷ 4 ∷ []) ≡ 1 ∷ 3 ∷ 5 ∷ []) × (edgesOf modules (1 ∷ 3 ∷ 5 ∷ []) ≡ 1 ∷ 4 ∷ [])
+pub there-and-back : (sideColumns modules (1 ∷ 4 ∷ []) ≡ 1 ∷ 3 ∷ 5 ∷ []) × (sideEdges modules (1 ∷ 3 ∷ 5 ∷ []) ≡ 1 ∷ 4 ∷ [])
 there-and-back = (refl, refl)

@@ -35,27 +35,27 @@ pinColumns e [] = []
 pinColumns e (p ∷ ps) = (e + p .offset - 1) ∷ pinColumns e ps
 
 -- left edges to columns, of one side
-abbrev pub columnsOf : List Module → List ℕ → List ℕ
-columnsOf [] es = []
-columnsOf (m ∷ ms) [] = []
-columnsOf (m ∷ ms) (e ∷ es) = pinColumns e (m .pins) ++ columnsOf ms es
+abbrev pub sideColumns : List Module → List ℕ → List ℕ
+sideColumns [] es = []
+sideColumns (m ∷ ms) [] = []
+sideColumns (m ∷ ms) (e ∷ es) = pinColumns e (m .pins) ++ sideColumns ms es
 
 -- the left edge of a module whose first pin stands in the first of these columns
 abbrev pub edgeOf : List Pin → List ℕ → ℕ
 edgeOf pins cs = getD cs 0 0 + 1 - firstOffset pins
 
 -- columns to left edges, of one side
-abbrev pub edgesOf : List Module → List ℕ → List ℕ
-edgesOf [] cs = []
-edgesOf (m ∷ ms) cs = edgeOf (m .pins) cs ∷ edgesOf ms (drop (length (m .pins)) cs)
+abbrev pub sideEdges : List Module → List ℕ → List ℕ
+sideEdges [] cs = []
+sideEdges (m ∷ ms) cs = edgeOf (m .pins) cs ∷ sideEdges ms (drop (length (m .pins)) cs)
 
 -- a placement as a column list of the sheet, and back
 abbrev pub sheetColumns : List Module → List Module → Edges → List ℕ
-sheetColumns top bottom es = columnsOf top (es .top) ++ columnsOf bottom (es .bottom)
+sheetColumns top bottom es = sideColumns top (es .top) ++ sideColumns bottom (es .bottom)
 
 abbrev pub sheetEdges : List Module → List Module → List ℕ → Edges
 sheetEdges top bottom cs =
-    record { top = edgesOf top (take (pinCount top) cs); bottom = edgesOf bottom (drop (pinCount top) cs) }
+    record { top = sideEdges top (take (pinCount top) cs); bottom = sideEdges bottom (drop (pinCount top) cs) }
 
 -- "The sheet's assignments must match, one to one, the placements without overlap": the columns of a placement are an assignment, the left
 -- edges of an assignment are a placement, and each way undoes the other

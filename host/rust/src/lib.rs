@@ -289,7 +289,7 @@ pub enum Refusal {
     SheetBuffer,
     /// 16: a module has no pins, a width outside 1 to 64, offsets that do not rise within it or bytes past the list's end, or a side has
     /// more than 16 modules.
-    Shape,
+    Module,
     /// 17: a module's set names a left edge from which it does not fit the channel.
     Edge,
 }
@@ -313,7 +313,7 @@ impl Refusal {
             Refusal::NotAllowed => 13,
             Refusal::OutOfRange { .. } => 14,
             Refusal::SheetBuffer => 9,
-            Refusal::Shape => 16,
+            Refusal::Module => 16,
             Refusal::Edge => 17,
         }
     }
@@ -337,7 +337,7 @@ impl fmt::Display for Refusal {
             Refusal::NotAllowed => "a listed column is not in its terminal's set",
             Refusal::OutOfRange { .. } => "a distance is out of range",
             Refusal::SheetBuffer => "the sheet buffer is too short",
-            Refusal::Shape => "a module breaks its rule, or a side has more than 16 of them",
+            Refusal::Module => "a module breaks its rule, or a side has more than 16 of them",
             Refusal::Edge => "a set names a left edge from which its module does not fit the channel",
         };
         write!(f, "refused {}: {why}", self.number())?;
@@ -372,7 +372,7 @@ fn answer(number: u32, amount: i32) -> Result<(), Refusal> {
         12 => Refusal::ListLength,
         13 => Refusal::NotAllowed,
         14 => Refusal::OutOfRange { amount },
-        16 => Refusal::Shape,
+        16 => Refusal::Module,
         17 => Refusal::Edge,
         _ => unreachable!("the library returns 0 to 14, 16 or 17, not {number}"),
     })

@@ -8,7 +8,7 @@ use borrow.Author.Needs.{needs}
 use Rattle.channel.specs.Sheet.{namesAbove}
 use Rattle.modules.proofs.Lists.{length-pins}
 use Rattle.module_check.specs.declared.PinTests.{PinTests}
-use Rattle.module_check.proofs.Joined.{same-tests}
+use Rattle.module_check.proofs.Combined.{same-tests}
 use Rattle.module_check.proofs.check_module.Statement.{statement}
 use Rattle.module_check.proofs.check_module.Tie as tie
 

@@ -6,7 +6,7 @@ use native.Mathlib.Omega.{arith}
 use Rattle.modules.specs.declared.Pin.{Pin}
 use Rattle.modules.specs.Modules.{lastOffset}
 use Rattle.modules.specs.Bytes.{pinSize, pinAt, pinsFrom}
-use Rattle.modules.proofs.Shapes.{rises, rising-last}
+use Rattle.modules.proofs.Sound.{rises, rising-last}
 use Rattle.module_records.proofs.Pins.{module-pins, last-pin}
 use Rattle.module_records.proofs.gap_of.Statement.{statement}
 use Rattle.module_records.proofs.gap_of.Tie as tie

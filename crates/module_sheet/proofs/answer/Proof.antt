@@ -5,29 +5,30 @@ use mathlib.Core.Bool.{Bool, true, false}
 use lib.Dec.{leb}
 use borrow.Author.Tests.{le-leb, lt-leb, not-true, not-false}
 use borrow.Author.Needs.{needs}
+use Rattle.encode.specs.Encode.{sheetSize}
 use Rattle.made.specs.declared.Made.the-variants.{Written, SheetBuffer}
-use Rattle.module_sheet.specs.Answer.{sheetSize, unless, answerOf}
+use Rattle.module_sheet.specs.Answer.{unless, answerOf}
 use Rattle.module_sheet.proofs.answer.Statement.{statement}
 use Rattle.module_sheet.proofs.answer.Tie as tie
 
 returns : tie.Need-returns
 unfolding answerOf
-returns c = simp (not-true (c .before .before .args .all .shaped) (c .if1 .taken))
+returns c = simp (not-true (c .before .before .args .all .valid) (c .if1 .taken))
 
 returns-2 : tie.Need-returns-2
 unfolding answerOf
 returns-2 c =
     let e1 = c .before .before in
     let all = e1 .before .before .args .all in
-    simp (not-false (all .shaped) (e1 .if1 .left), not-true (all .within) (c .if2 .taken))
+    simp (not-false (all .valid) (e1 .if1 .left), not-true (all .within) (c .if2 .taken))
 
 -- past 16 and 17
 past :
     (c : tie.Else2)
-    → let all = c .before .before .before .before .args .all in (all .shaped ≡ true) × (all .within ≡ true)
+    → let all = c .before .before .before .before .args .all in (all .valid ≡ true) × (all .within ≡ true)
 past c =
     let all = c .before .before .before .before .args .all in
-    (not-false (all .shaped) (c .before .before .if1 .left), not-false (all .within) (c .if2 .left))
+    (not-false (all .valid) (c .before .before .if1 .left), not-false (all .within) (c .if2 .left))
 
 returns-3 : tie.Need-returns-3
 unfolding answerOf

@@ -27,10 +27,10 @@ returns-2 c =
     let l = c .before .before .before .before .before .args .columns in
     makes-none _ _ _ _ _ (rw (le-leb 1 l (omega (arith, c .if2 .taken)), lt-leb l 64 (c .if2 .taken))) (λ e. omega arith)
 
-join-requires : tie.Need-join-requires
-join-requires c κs =
+combine-requires : tie.Need-combine-requires
+combine-requires c κs =
     let start = c .before .before .before .before .before .before .before in
-    omega (arith, c .before .check-side .ensures .1, c .check-side2 .ensures .1, start .good .1 .0, start .good .1 .1 .0)
+    omega (arith, c .before .check-modules .ensures .1, c .check-modules2 .ensures .1, start .good .1 .0, start .good .1 .1 .0)
 
 -- the answer that was given
 answer :
@@ -38,10 +38,10 @@ answer :
     → let a = c .before .before .before .before .before .before .before .before .before .args in
     c .answer .result ≡ madeOf (a .columns) (a .top .now) (a .bottom .now) (length (a .sheet .now))
 answer c =
-    let at-join = c .before in
-    let e2 = at-join .before .before .before in
-    made-of _ _ _ _ _ _ _ _ (omega (arith, e2 .before .if1 .left)) (e2 .if2 .left) (at-join .before .before .check-side .ensures .0)
-    (at-join .before .check-side2 .ensures .0) (at-join .join .ensures) (c .answer .ensures)
+    let at-combine = c .before in
+    let e2 = at-combine .before .before .before in
+    made-of _ _ _ _ _ _ _ _ (omega (arith, e2 .before .if1 .left)) (e2 .if2 .left) (at-combine .before .before .check-modules .ensures .0)
+    (at-combine .before .check-modules2 .ensures .0) (at-combine .combine .ensures) (c .answer .ensures)
 
 -- a sheet is written only where nothing is refused
 ok :
@@ -56,10 +56,10 @@ put-sheet-requires c κs =
     let at-bottom = c .before .before .before .before .before in
     let a = at-bottom .before .before .before .before .before .before .before .args in
     let k = ok (c .before) in
-    let top = ap (λ (t : Tests). t .pins) (at-bottom .before .check-side .ensures .0) in
-    let bottom = ap (λ (t : Tests). t .pins) (at-bottom .check-side2 .ensures .0) in (
-      all-writable (a .columns) (k .columns .1) (modulesIn (a .top .now)) (k .shapes .0) (k .within .0),
-      all-writable (a .columns) (k .columns .1) (modulesIn (a .bottom .now)) (k .shapes .1) (k .within .1),
+    let top = ap (λ (t : Tests). t .pins) (at-bottom .before .check-modules .ensures .0) in
+    let bottom = ap (λ (t : Tests). t .pins) (at-bottom .check-modules2 .ensures .0) in (
+      all-writable (a .columns) (k .columns .1) (modulesIn (a .top .now)) (k .valid .0) (k .within .0),
+      all-writable (a .columns) (k .columns .1) (modulesIn (a .bottom .now)) (k .valid .1) (k .within .1),
       top,
       bottom,
       omega (arith, top, k .counts .0),
@@ -85,7 +85,7 @@ make-spec =
     returns-2
     (λ c κs. search needs)
     (λ c κs. search needs)
-    join-requires
+    combine-requires
     (λ c κs. search needs)
     (λ c κs. search needs)
     put-sheet-requires

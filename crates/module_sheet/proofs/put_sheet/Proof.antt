@@ -21,11 +21,11 @@ use Rattle.module_sheet.proofs.put_sheet.Tie as tie
 length-side : (ms : List Module) → length (sectionBytes (sideTerminals ms)) ≡ recordSize * pinCount ms
 length-side ms = length-section (sideTerminals ms) ∙ ap (λ (n : ℕ). recordSize * n) (length-terminals ms)
 
-put-side-requires-2 : tie.Need-put-side-requires-2
-put-side-requires-2 c κs =
+put-modules-requires-2 : tie.Need-put-modules-requires-2
+put-modules-requires-2 c κs =
     let at-top = c .before .before .before in
     let start = at-top .before .before .before .before .before in
-    let top = at-top .put-side .ensures in (
+    let top = at-top .put-modules .ensures in (
       start .pre .1,
       omega (arith, top .place, kept top, length-side (modulesIn (start .args .top .now)), start .pre .2, start .pre .3, start .pre .5),
     )
@@ -35,8 +35,8 @@ put-trailer-requires c κs =
     let at-bottom = c .before .before .before .before in
     let at-top = at-bottom .before .before .before .before in
     let start = at-top .before .before .before .before .before in
-    let top = at-top .put-side .ensures in
-    let bottom = at-bottom .put-side2 .ensures in
+    let top = at-top .put-modules .ensures in
+    let bottom = at-bottom .put-modules2 .ensures in
     omega (
       arith,
       top .place,
@@ -69,14 +69,14 @@ returns c =
     let a = start .args in
     same-text
     (sheet-bytes (a .columns) (a .p) (a .q) (modulesIn (a .top .now)) (modulesIn (a .bottom .now)) (start .pre .2) (start .pre .3))
-    (after (after (at-top .put-side .ensures) (at-bottom .put-side2 .ensures)) (at-trailer .put-trailer .ensures))
+    (after (after (at-top .put-modules .ensures) (at-bottom .put-modules2 .ensures)) (at-trailer .put-trailer .ensures))
 
 pub put-sheet-spec : {M : Type 1} → statement M
 put-sheet-spec =
     tie.close
     (tie.spec
     (λ c κs. search needs)
-    put-side-requires-2
+    put-modules-requires-2
     (λ c. search needs)
     (λ c. search needs)
     put-trailer-requires

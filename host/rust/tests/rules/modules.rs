@@ -360,7 +360,7 @@ fn more_pins_than_a_byte_can_say() {
     for count in [65, 255, 256, 257, 256 + 20, 65_536 + 20] {
         let pins = (0..count).map(|pin| Pin { offset: (pin % 64 + 1) as u8, net: 1 }).collect();
         let modules = [Module { edges: u64::MAX, ..with_pins(64, 2, 1) }, Module { pins, ..with_pins(64, 64, 1) }];
-        for (length, wanted) in [(64, Refusal::Shape), (65, Refusal::Length)] {
+        for (length, wanted) in [(64, Refusal::Module), (65, Refusal::Length)] {
             assert_eq!(cazdrob::sheet_of_modules(length, &modules, &[]), Err(wanted));
             assert_eq!(cazdrob::sheet_of_modules(length, &modules[..1], &modules[1..]), Err(wanted));
         }

@@ -1,4 +1,4 @@
--- `module_records::put_side` meets its contract: each turn writes the records of one module and leaves those behind it.
+-- `module_records::put_modules` meets its contract: each turn writes the records of one module and leaves those behind it.
 -- Assumes nothing.
 use Prim.Native.Nat.{ℕ, _-_, _≤_}
 use mathlib.Core.Path.{_≡_, sym, ap}
@@ -16,8 +16,8 @@ use Rattle.modules.specs.Bytes.{moduleOf, modulesAt}
 use Rattle.modules.proofs.Lists.{length-pins, Lies, modules-end, head-read}
 use Rattle.modules.proofs.Terminals.{length-behind, length-terminals}
 use Rattle.module_records.specs.Writable.{Writable, AllWritable}
-use Rattle.module_records.proofs.put_side.Statement.{statement}
-use Rattle.module_records.proofs.put_side.Tie as tie
+use Rattle.module_records.proofs.put_modules.Statement.{statement}
+use Rattle.module_records.proofs.put_modules.Tie as tie
 
 abbrev Inv-loop : tie.InvT-loop
 Inv-loop out₀ at side end₀ place₀ first₀ gap₀ out end place first gap =
@@ -112,8 +112,8 @@ returns c =
     let none = modules-end (c .before .before .before .before .args .side .now) (l .place) (c .loop-test .left) in
     none-left (rw none at (l .inv .0))
 
-pub put-side-spec : {M : Type 1} → statement M
-put-side-spec =
+pub put-modules-spec : {M : Type 1} → statement M
+put-modules-spec =
     tie.close
     (tie.spec
     Inv-loop

@@ -1,4 +1,4 @@
--- What the tests of modules say: offsets that rise, a module in shape, a sound side of modules.
+-- What the tests of modules say: offsets that rise, a valid module, a sound side of modules.
 -- Assumes nothing.
 use Prim.Native.Nat.{ℕ, _+_, _-_, _≤_, _<_}
 use mathlib.Core.Path.{_≡_}
@@ -10,7 +10,7 @@ use lib.Dec.{leb, ltb}
 use borrow.Author.Tests.{leb-true, ltb-true, not-true}
 use Rattle.channel.specs.Sheet.{namesAbove}
 use Rattle.modules.specs.declared.Pin.{Pin}
-use Rattle.modules.specs.Modules.{Module, firstOffset, lastOffset, every, rising?, shaped?, within?}
+use Rattle.modules.specs.Modules.{Module, firstOffset, lastOffset, every, rising?, valid?, within?}
 
 -- offsets that rise from `before` to the width at most
 abbrev pub Rising : ℕ → ℕ → List Pin → Type 0
@@ -29,13 +29,13 @@ rising-last w o [] h = (omega arith, h)
 rising-last w o (p ∷ ps) h = let (a, b) = rising-last w (p .offset) ps (h .1) in (omega arith, b)
 
 -- a module that 16 leaves
-pub record Shaped (m : Module) : Type 0 where
+pub record Valid (m : Module) : Type 0 where
   pub width : (1 ≤ m .width) × (m .width ≤ 64)
   pub some : 1 ≤ length (m .pins)
   pub rising : Rising (m .width) 0 (m .pins)
 
-pub shapes : (m : Module) → shaped? m ≡ true → Shaped m
-shapes m h =
+pub valid-parts : (m : Module) → valid? m ≡ true → Valid m
+valid-parts m h =
     let (a, b) = and-eq-true-iff _ _ .0 h in
     let (w, x) = and-eq-true-iff (leb 1 (m .width)) (leb (m .width) 64) .0 a in
     let (s, r) = and-eq-true-iff (leb 1 (length (m .pins))) (rising? (m .width) 0 (m .pins)) .0 b in
@@ -47,7 +47,7 @@ shapes m h =
 
 -- its first and its last offset
 pub offsets :
-    (m : Module) → Shaped m
+    (m : Module) → Valid m
     → (1 ≤ firstOffset (m .pins)) × (firstOffset (m .pins) ≤ lastOffset 0 (m .pins)) × (lastOffset 0 (m .pins) ≤ m .width)
 offsets m s = by-pins (m .width) (m .pins) (s .some) (s .rising)
   where
@@ -59,7 +59,7 @@ offsets m s = by-pins (m .width) (m .pins) (s .some) (s .rising)
 
 -- a module that 16 and 17 leave in a channel of l columns
 pub record SoundModule (l : ℕ) (m : Module) : Type 0 where
-  pub shape : Shaped m
+  pub valid : Valid m
   pub edges : namesAbove (l + 1 - m .width) (m .edges) ≡ false
 
 abbrev pub SoundModules : ℕ → List Module → Type 0
@@ -67,9 +67,9 @@ SoundModules l [] = Unit {0}
 SoundModules l (m ∷ ms) = SoundModule l m × SoundModules l ms
 
 pub sound-modules :
-    (l : ℕ) (ms : List Module) → every shaped? ms ≡ true → every (within? l) ms ≡ true → SoundModules l ms
+    (l : ℕ) (ms : List Module) → every valid? ms ≡ true → every (within? l) ms ≡ true → SoundModules l ms
 sound-modules l [] h e = tt
 sound-modules l (m ∷ ms) h e =
-    let (h₁, h₂) = and-eq-true-iff (shaped? m) (every shaped? ms) .0 h in
+    let (h₁, h₂) = and-eq-true-iff (valid? m) (every valid? ms) .0 h in
     let (e₁, e₂) = and-eq-true-iff (within? l m) (every (within? l) ms) .0 e in
-    (record { shape = shapes m h₁; edges = not-true _ e₁ }, sound-modules l ms h₂ e₂)
+    (record { valid = valid-parts m h₁; edges = not-true _ e₁ }, sound-modules l ms h₂ e₂)

@@ -1,4 +1,4 @@
--- `module_check::check_side` meets its contract: the modules passed and the modules left make the side's.
+-- `module_check::check_modules` meets its contract: the modules passed and the modules left make the side's.
 -- Assumes nothing.
 use Prim.Native.Nat.{ℕ, _+_, _-_, _≤_}
 use mathlib.Core.Path.{_≡_, refl, sym, _∙_, ap, ap₂}
@@ -12,14 +12,14 @@ use Rattle.modules.specs.Modules.{Module}
 use Rattle.modules.specs.Bytes.{moduleOf, modulesAt}
 use Rattle.modules.proofs.Lists.{length-pins, Lies, modules-end, head-read}
 use Rattle.module_check.specs.declared.Tests.{Tests}
-use Rattle.module_check.specs.Tests.{allTests, joined}
-use Rattle.module_check.proofs.Joined.{same-tests, joined-more, all-joined}
-use Rattle.module_check.proofs.check_side.Statement.{statement}
-use Rattle.module_check.proofs.check_side.Tie as tie
+use Rattle.module_check.specs.Tests.{allTests, combined}
+use Rattle.module_check.proofs.Combined.{same-tests, combined-more, all-combined}
+use Rattle.module_check.proofs.check_modules.Statement.{statement}
+use Rattle.module_check.proofs.check_modules.Tie as tie
 
 abbrev Inv-loop : tie.InvT-loop
 Inv-loop side columns at₀ count₀ all₀ at count all =
-    (joined all (allTests columns (modulesAt side at)) ≡ allTests columns (modulesAt side 0))
+    (combined all (allTests columns (modulesAt side at)) ≡ allTests columns (modulesAt side 0))
     × (count + length (modulesAt side at) ≡ length (modulesAt side 0))
     × (all .pins ≤ at)
     × (count ≤ at)
@@ -57,8 +57,8 @@ few c =
     let pins = ap (λ (t : Tests). t .pins) (c .check-module .ensures) ∙ length-pins _ (head .start) (head .count) in
     omega (arith, lies .start, lies .pins, l .inv .2, pins)
 
-join-requires : tie.Need-join-requires Inv-loop μ-loop
-join-requires c κs = omega (arith, few c, here (c .before) .0 .inside, c .before .before .before .before .before .good .0)
+combine-requires : tie.Need-combine-requires Inv-loop μ-loop
+combine-requires c κs = omega (arith, few c, here (c .before) .0 .inside, c .before .before .before .before .before .good .0)
 
 loop-less : tie.Need-loop-less Inv-loop μ-loop
 loop-less c = let at-head = c .before .before in omega (arith, here at-head .0 .behind, at-head .before .loop-test .taken)
@@ -70,12 +70,12 @@ loop-again c =
     let a = at-head .before .before .before .before .args in
     let head = at-head .head-in .result in
     let (lies, list) = here at-head in (
-      rw (c .join .ensures, c .before .check-module .ensures)
-          (joined-more (a .columns) (l .all) (moduleOf (a .side .now) head) (modulesAt (a .side .now) (head .end))
-          ∙ ap (λ (ms : List Module). joined (l .all) (allTests (a .columns) ms)) (sym list)
+      rw (c .combine .ensures, c .before .check-module .ensures)
+          (combined-more (a .columns) (l .all) (moduleOf (a .side .now) head) (modulesAt (a .side .now) (head .end))
+          ∙ ap (λ (ms : List Module). combined (l .all) (allTests (a .columns) ms)) (sym list)
           ∙ l .inv .0),
       omega (arith, l .inv .1, ap (λ (ms : List Module). length ms) list),
-      rw (c .join .ensures) (few (c .before)),
+      rw (c .combine .ensures) (few (c .before)),
       omega (arith, lies .behind, l .inv .3),
       lies .inside,
     )
@@ -87,18 +87,18 @@ returns c =
     let side = modulesAt (a .side .now) 0 in
     let none = modules-end (a .side .now) (l .at) (c .before .loop-test .left) in
     let all : l .all ≡ allTests (a .columns) side
-    = sym (all-joined (a .columns) (l .all))
-    ∙ ap (λ (ms : List Module). joined (l .all) (allTests (a .columns) ms)) (sym none)
+    = sym (all-combined (a .columns) (l .all))
+    ∙ ap (λ (ms : List Module). combined (l .all) (allTests (a .columns) ms)) (sym none)
     ∙ l .inv .0 in
     let count : l .count ≡ length side = omega (arith, l .inv .1, ap (λ (ms : List Module). length ms) none) in (
       same-tests (ap (λ (t : Tests). t .pins) all)
-          (c .both .ensures ∙ ap₂ (λ (x : Bool) (n : ℕ). x && leb n 16) (ap (λ (t : Tests). t .shaped) all) count)
+          (c .both .ensures ∙ ap₂ (λ (x : Bool) (n : ℕ). x && leb n 16) (ap (λ (t : Tests). t .valid) all) count)
           (ap (λ (t : Tests). t .within) all) (ap (λ (t : Tests). t .named) all),
       omega (arith, l .inv .2, l .inv .4),
     )
 
-pub check-side-spec : {M : Type 1} → statement M
-check-side-spec =
+pub check-modules-spec : {M : Type 1} → statement M
+check-modules-spec =
     tie.close
     (tie.spec
     Inv-loop
@@ -106,7 +106,7 @@ check-side-spec =
     loop-holds
     (λ c κs. search needs)
     check-module-requires
-    join-requires
+    combine-requires
     (λ c. search needs)
     loop-less
     loop-again
