@@ -1,1 +1,2 @@
 mod Bytes
+pub mod Laws

@@ -18,6 +18,7 @@ use Rattle.soundness.specs.Read.{read}
 use Rattle.soundness.specs.Read.Read.{sound}
 use Rattle.modules.specs.Modules.{Module, pinCount, moduleSheet}
 use Rattle.modules.specs.Bytes.{modulesIn}
+use Rattle.modules.proofs.Nets.{side-fits}
 use Rattle.modules.proofs.Sound.{sound-modules}
 use Rattle.modules.proofs.Terminals.{length-terminals}
 use Rattle.module_check.specs.declared.Tests.{Tests}
@@ -27,7 +28,7 @@ use Rattle.made.specs.declared.Made.the-variants.{Written, Sheet as Unsound, Mo
 use Rattle.made.specs.Numbers.{numberOf, lengthOf}
 use Rattle.module_sheet.specs.Answer.{answerOf, answerIn, madeOf, withSheet, sheetAfter, Makes}
 use Rattle.module_sheet.proofs.Accepted.{Accepted}
-use Rattle.module_sheet.proofs.Sound.{modules-sound, modules-encodable, side-fits}
+use Rattle.module_sheet.proofs.Sound.{modules-sound, modules-encodable}
 
 -- the answer, from the tests of the two sides
 pub made-of :

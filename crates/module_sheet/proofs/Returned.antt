@@ -150,7 +150,8 @@ module _ (l : ℕ) (top bottom sheet sheet' : List ℕ) (r : Made) (makes : Make
                   whole = read-sound _ _ reads;
                   reads = rw written reads;
                   matches =
-                      sheet-matches l tops bottoms (inside .1) (side tops (all-valid .0) (edges .0)) (side bottoms (all-valid .1) (edges .1));
+                      sheet-matches l tops bottoms (inside .1) (side tops (all-valid .0) (edges .0))
+                      (side bottoms (all-valid .1) (edges .1));
                 }
               where
                 side : (ms : List Module) → allValid? ms ≡ true → every (within? l) ms ≡ true → SoundModules l ms

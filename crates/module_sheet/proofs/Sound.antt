@@ -1,24 +1,23 @@
--- The sheet of two sides of modules that no answer refuses is sound, its numbers fit their bytes, and so it is read back.
+-- The sheet of two sides of modules that no answer refuses is sound, and its numbers fit their bytes.
 -- Assumes nothing.
-use Prim.Native.Nat.{ℕ, zero, suc, _+_, _-_, _*_, _^_, _≤_, _<_}
+use Prim.Native.Nat.{ℕ, _+_, _-_, _*_, _^_, _≤_, _<_}
 use mathlib.Core.Path.{_≡_, refl}
 use mathlib.Core.List.{List, [], _∷_, _++_}
-use mathlib.Core.Bool.{Bool, true, false, cond, not, and-eq-true-iff}
+use mathlib.Core.Bool.{Bool, true, false, not, and-eq-true-iff}
 use native.Mathlib.Omega.{arith}
 use native.Mathlib.Nat.{lt-of-lt-of-le}
-use lib.ListN.{length, getD}
-use lib.Dec.{eqb, leb}
+use lib.ListN.{length}
+use lib.Dec.{eqb}
 use lib.Pow.{pow-mono}
 use borrow.Author.Tests.{le-leb, lt-leb, not-true}
 use Rattle.channel.specs.Sheet.{Terminal, SoundTerminal, SoundFrom, distances?, namesAbove, Sound}
 use Rattle.channel.proofs.Sides.{Each}
-use Rattle.little.specs.Little.{little}
 use Rattle.encode.specs.Encode.{EncodableTerminal, EncodableSide, Encodable}
 use Rattle.modules.specs.declared.Pin.{Pin}
 use Rattle.modules.specs.Modules.{Module, pinCount, firstOffset, gapOf, pinTerminal, innerTerminals, pinTerminals}
 use Rattle.modules.specs.Modules.{firstLeast, firstGreatest, terminalsBehind, sideTerminals, moduleSheet, every, pinsNamed?, named?}
-use Rattle.modules.specs.Bytes.{pinSize, pinAt, pinsFrom, headIn, moduleOf, modulesFrom, modulesAt, modulesIn}
 use Rattle.modules.proofs.Moved.{moved-fits}
+use Rattle.modules.proofs.Nets.{NetsFit, ModulesFit}
 use Rattle.modules.proofs.Sound.{Rising, rising-last, offsets, SoundModules}
 use Rattle.modules.proofs.Terminals.{length-terminals}
 
@@ -33,15 +32,6 @@ good-sound l isFirst (t ∷ ts) h = (h .0 .0, good-sound l false ts (h .1))
 good-fits : (l : ℕ) (isFirst : Bool) (ts : List Terminal) → Each (Good l) isFirst ts → EncodableSide ts
 good-fits l isFirst [] h = tt
 good-fits l isFirst (t ∷ ts) h = (h .0 .1, good-fits l false ts (h .1))
-
--- nets that fit two bytes
-abbrev NetsFit : List Pin → Type 0
-NetsFit [] = Unit {0}
-NetsFit (p ∷ ps) = (p .net < 65536) × NetsFit ps
-
-abbrev ModulesFit : List Module → Type 0
-ModulesFit [] = Unit {0}
-ModulesFit (m ∷ ms) = NetsFit (m .pins) × ModulesFit ms
 
 -- one pin, with a distance pair that is sound where it stands
 module _ (l w edges : ℕ) (short : l ≤ 64) (above : namesAbove (l + 1 - w) edges ≡ false) where
@@ -125,24 +115,3 @@ module _
         top = good-fits l true (sideTerminals top) (behind-good l (columns .1) true 0 top (omega arith) st nt ft);
         bottom = good-fits l true (sideTerminals bottom) (behind-good l (columns .1) true 0 bottom (omega arith) sb nb fb);
       }
-
--- nets read from bytes fit two bytes
-module _ (b : List ℕ) (below : (i : ℕ) → getD b i 0 < 256) where
-  pins-fit : (n i : ℕ) → NetsFit (pinsFrom b i n)
-  unfolding pinAt little
-  pins-fit zero i = tt
-  pins-fit (suc n) i = (omega (arith, below (i + 1), below (suc (i + 1))), pins-fit n (i + pinSize))
-
-  modules-fit : (n i : ℕ) → ModulesFit (modulesFrom n b i)
-  modules-fit zero i = tt
-  modules-fit (suc n) i =
-      by-end (moduleOf b (headIn b i)) (modulesFrom n b (headIn b i .end)) (leb (length b) i)
-      (pins-fit (headIn b i .count) (headIn b i .start)) (modules-fit n (headIn b i .end))
-    where
-      by-end : (m : Module) (ms : List Module) (t : Bool) → NetsFit (m .pins) → ModulesFit ms → ModulesFit (cond t [] (m ∷ ms))
-      by-end m ms true f g = tt
-      by-end m ms false f g = (f, g)
-
-  pub side-fits : ModulesFit (modulesIn b)
-  unfolding modulesAt
-  side-fits = modules-fit (length b - 0) 0

@@ -1,4 +1,5 @@
 pub mod Lists
 pub mod Moved
+pub mod Nets
 pub mod Sound
 pub mod Terminals

@@ -164,7 +164,8 @@ module _ (l : ℕ) (short : l ≤ 64) where
       (ap (λ (k : ℕ). placedFrom k ms es) (next-start (m .width) (lastOffset 0 (m .pins)) e one lw) ∙ f))
 
   edges-back :
-      (start : ℕ) (ms : List Module) (es : List ℕ) → SoundModules l ms → placedFrom start ms es ≡ true → sideEdges ms (sideColumns ms es) ≡ es
+      (start : ℕ) (ms : List Module) (es : List ℕ) → SoundModules l ms → placedFrom start ms es ≡ true
+      → sideEdges ms (sideColumns ms es) ≡ es
   edges-back start [] [] s h = refl
   edges-back start [] (e ∷ es) s h = absurd (true≢false (sym h))
   edges-back start (m ∷ ms) [] s h = absurd (true≢false (sym h))
@@ -201,8 +202,10 @@ module _ (l : ℕ) (short : l ≤ 64) where
 -- columns back.
 pub side-matches :
     (l : ℕ) (ms : List Module) → l ≤ 64 → SoundModules l ms
-    → ((es : List ℕ) → placed? ms es ≡ true → (sideFits (sideTerminals ms) (sideColumns ms es) ≡ true) × (sideEdges ms (sideColumns ms es) ≡ es))
-    × ((cs : List ℕ) → sideFits (sideTerminals ms) cs ≡ true → (placed? ms (sideEdges ms cs) ≡ true) × (sideColumns ms (sideEdges ms cs) ≡ cs))
+    → ((es : List ℕ) → placed? ms es ≡ true
+    → (sideFits (sideTerminals ms) (sideColumns ms es) ≡ true) × (sideEdges ms (sideColumns ms es) ≡ es))
+    × ((cs : List ℕ) → sideFits (sideTerminals ms) cs ≡ true
+    → (placed? ms (sideEdges ms cs) ≡ true) × (sideColumns ms (sideEdges ms cs) ≡ cs))
 unfolding placed?
 side-matches l ms h s =
     (λ es p. (placed-fits l h true 0 0 ms es s p, edges-back l h 0 ms es s p), λ cs f. fits-placed l h true 0 0 ms cs s f)
