@@ -75,48 +75,52 @@ fn read(sheet: &[u8]) -> Result<Channel, u32> {
     Ok(Channel { length, top, bottom })
 }
 
+/// Whether a net leaves at the left and at the right, by its number.
+fn leaves(net: u16) -> (bool, bool) {
+    ((60_001..=62_000).contains(&net) || net > 64_000, net > 62_000)
+}
+
 /// The first and last place of a net on one side, from 1. With no pin there, first is beyond every place and last is 0.
 #[derive(Clone, Copy)]
 struct Places {
     first: usize,
     last: usize,
-    count: usize,
 }
 
 #[derive(Clone, Copy)]
 struct Net {
     number: u16,
+    leaves: (bool, bool),
     top: Places,
     bottom: Places,
 }
 
 fn collect_nets(channel: &Channel) -> Vec<Net> {
-    let none = Places { first: usize::MAX, last: 0, count: 0 };
+    let none = Places { first: usize::MAX, last: 0 };
     let mut nets: Vec<Net> = Vec::new();
     for (on_top, side) in [(true, &channel.top), (false, &channel.bottom)] {
         for (place, terminal) in side.iter().enumerate() {
             let at = nets.iter().position(|net| net.number == terminal.net).unwrap_or_else(|| {
-                nets.push(Net { number: terminal.net, top: none, bottom: none });
+                nets.push(Net { number: terminal.net, leaves: leaves(terminal.net), top: none, bottom: none });
                 nets.len() - 1
             });
             let places = if on_top { &mut nets[at].top } else { &mut nets[at].bottom };
             places.first = places.first.min(place + 1);
             places.last = place + 1;
-            places.count += 1;
         }
     }
     nets
 }
 
 /// The nets that cross a column. `before` are the top and bottom pins left of it, `up_to` those with the column's own, and
-/// `in_column` says how many of these a net has.
-fn crossing(nets: &[Net], before: (usize, usize), up_to: (usize, usize), in_column: impl Fn(&Net) -> usize) -> u16 {
+/// `in_column` says whether a net has one of these.
+fn crossing(nets: &[Net], before: (usize, usize), up_to: (usize, usize), in_column: impl Fn(&Net) -> bool) -> u16 {
     let mut count = 0;
     for net in nets {
-        let here = in_column(net);
-        let left = net.top.first <= before.0 || net.bottom.first <= before.1;
-        let right = net.top.last > up_to.0 || net.bottom.last > up_to.1;
-        let crosses = if here > 0 { net.top.count + net.bottom.count > here } else { left && right };
+        // a net that leaves goes on beyond the end
+        let left = net.leaves.0 || net.top.first <= before.0 || net.bottom.first <= before.1;
+        let right = net.leaves.1 || net.top.last > up_to.0 || net.bottom.last > up_to.1;
+        let crosses = if in_column(net) { left || right } else { left && right };
         count += u16::from(crosses);
     }
     count
@@ -124,11 +128,11 @@ fn crossing(nets: &[Net], before: (usize, usize), up_to: (usize, usize), in_colu
 
 /// The crossing numbers x, y, z of (i, j): the last column holds a top pin, a bottom pin, or both.
 fn loads(channel: &Channel, nets: &[Net], i: usize, j: usize) -> (u16, u16, u16) {
-    let top = |net: &Net| usize::from(channel.top[i - 1].net == net.number);
-    let bottom = |net: &Net| usize::from(channel.bottom[j - 1].net == net.number);
+    let top = |net: &Net| channel.top[i - 1].net == net.number;
+    let bottom = |net: &Net| channel.bottom[j - 1].net == net.number;
     let x = if i > 0 { crossing(nets, (i - 1, j), (i, j), top) } else { INFINITY };
     let y = if j > 0 { crossing(nets, (i, j - 1), (i, j), bottom) } else { INFINITY };
-    let both = |net: &Net| top(net) + bottom(net);
+    let both = |net: &Net| top(net) || bottom(net);
     let z = if i > 0 && j > 0 { crossing(nets, (i - 1, j - 1), (i, j), both) } else { INFINITY };
     (x, y, z)
 }
@@ -305,7 +309,7 @@ pub fn measure(sheet: &[u8], columns: &[u8]) -> Result<u32, (u32, i32)> {
             }
         }
     }
-    // for each net its number and its leftmost and rightmost columns
+    // for each net its number and its leftmost and rightmost columns, 0 and L + 1 where it leaves
     let mut nets: Vec<(u16, u8, u8)> = Vec::with_capacity(columns.len());
     for (terminal, &column) in channel.top.iter().chain(&channel.bottom).zip(columns) {
         match nets.iter_mut().find(|net| net.0 == terminal.net) {
@@ -313,10 +317,14 @@ pub fn measure(sheet: &[u8], columns: &[u8]) -> Result<u32, (u32, i32)> {
                 net.1 = net.1.min(column);
                 net.2 = net.2.max(column);
             }
-            None => nets.push((terminal.net, column, column)),
+            None => {
+                let (left, right) = leaves(terminal.net);
+                let rightmost = if right { channel.length as u8 + 1 } else { column };
+                nets.push((terminal.net, if left { 0 } else { column }, rightmost));
+            }
         }
     }
-    // a net whose pins share one column crosses nothing
+    // a plain net whose pins share one column crosses nothing
     let crossings = (1..=channel.length as u8).map(|c| nets.iter().filter(|net| net.1 < net.2 && net.1 <= c && c <= net.2).count());
     Ok(crossings.max().unwrap_or(0) as u32)
 }

@@ -36,6 +36,13 @@ static const uint8_t BOUND[84] = {
     1, 0, 1, 255, 255, 0, 0, 0, 0, 0, 0, 0, /* B 3 */
     0, 0, 3, 0,   36, 0, 3, 0, 8, 0, 'C', 'P',
 };
+/* nets that leave, with one pin each, on three columns, all allowed */
+static const uint8_t LEAVING[48] = {
+    0x61, 0xea, 0, 0,   7, 0, 0, 0, 0, 0, 0, 0, /* T 1, net 60,001: at the left */
+    0xff, 0xff, 1, 255, 7, 0, 0, 0, 0, 0, 0, 0, /* T 2, net 65,535: at both ends */
+    0x31, 0xf2, 0, 0,   7, 0, 0, 0, 0, 0, 0, 0, /* B 1, net 62,001: at the right */
+    0, 0, 2, 0,         24, 0, 1, 0, 3, 0, 'C', 'P',
+};
 
 /* the modules of docs/FORMAT.md on top, one more at the bottom, and their sheet on five columns */
 static const uint8_t TOP[29] = {
@@ -185,6 +192,7 @@ int main(void) {
     static const uint8_t best[4] = {2, 3, 1, 2}, leftmost[4] = {1, 2, 1, 2}, rival[4] = {1, 2, 2, 3};
     static const uint8_t shared[4] = {2, 2, 1, 3}, zero[4] = {2, 2, 0, 1}, above[4] = {2, 65, 1, 2};
     static const uint8_t bound[6] = {1, 3, 4, 1, 4, 5}, beyond[6] = {5, 2, 3, 1, 4, 9};
+    static const uint8_t apart[3] = {1, 2, 2}, together[3] = {1, 2, 1}, past[3] = {2, 3, 1};
     static const uint8_t placed[4] = {1, 3, 5, 3}, bare[10] = {3, 0, 7, 0, 0, 0, 0, 0, 0, 0};
     static const uint8_t nowhere[24] = {6, 0, 0, 0, 0, 0, 0, 0, 0, 0, 0, 0, 0, 0, 0, 0, 0, 0, 1, 0, 5, 0, 'C', 'P'};
     static const uint8_t twice_trailer[12] = {0, 0, 3, 0, 36, 0, 3, 0, 5, 0, 'C', 'P'};
@@ -197,6 +205,8 @@ int main(void) {
     EXPECT(cazdrob_check(EMPTY, 12) == 0);
     EXPECT(cazdrob_cells(EMPTY, 12) == 4);
     EXPECT(found(search(EMPTY, 12, 0, 4), 0, NULL, 0, 4));
+    /* column 3 empty, and T 1 left of B 1 */
+    EXPECT(found(search(LEAVING, 48, 3, 96), 2, apart, 3, 96));
 
     EXPECT(cazdrob_check(A, 0) == CAZDROB_SHORT);
     EXPECT(cazdrob_check(A, 11) == CAZDROB_SHORT);
@@ -245,6 +255,10 @@ int main(void) {
     EXPECT(measures(A, 60, rival, 4, 0, 1, 0));
     EXPECT(measures(EMPTY, 12, best, 0, 0, 0, 0));
     EXPECT(measures(BOUND, 84, bound, 6, 0, 3, 0));
+    /* T 2 crosses every column; T 1 those up to its own and B 1 those from its own on: no column of both, one, two */
+    EXPECT(measures(LEAVING, 48, apart, 3, 0, 2, 0));
+    EXPECT(measures(LEAVING, 48, together, 3, 0, 3, 0));
+    EXPECT(measures(LEAVING, 48, past, 3, 0, 3, 0));
     EXPECT(measures(A, 11, shared, 4, CAZDROB_SHORT, 0, 0));
     EXPECT(measures(A, 60, shared, 3, CAZDROB_LIST_LENGTH, 0, 0));
     EXPECT(measures(A, 60, shared, 0, CAZDROB_LIST_LENGTH, 0, 0));

@@ -12,3 +12,4 @@ pub mod Sides
 pub mod Pairs
 pub mod Crossings
 pub mod Spans
+pub mod Worked

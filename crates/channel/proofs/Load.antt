@@ -1,18 +1,21 @@
 -- The load lemma: the density of a word's columns is the greatest load of the word's occupied columns.
 -- Assumes nothing.
-use Prim.Native.Nat.{ℕ, suc, _+_, _≤_, max}
+use Prim.Native.Nat.{ℕ, zero, suc, _+_, _≤_, max}
 use mathlib.Core.Path.{_≡_, refl, sym, ap, ap₂, _∙_, fun-ext}
-use mathlib.Core.List.{List, [], _∷_, _++_, append-assoc}
-use mathlib.Core.Bool.{Bool, true, false, cond, _||_, and-false, or-false, false≢true}
-use native.Mathlib.Nat.{le-refl, le-trans, le-max-right, zero-max}
+use mathlib.Core.List.{List, [], _∷_, _++_, append-assoc, append-nil}
+use mathlib.Core.Bool.{Bool, true, false, cond, _||_, or-true, or-false, false≢true}
+use native.Mathlib.Nat.{le-refl, le-trans, le-max-left, le-max-right}
 use native.Mathlib.Numerals.{add-one}
 use native.Mathlib.Omega.{arith}
-use lib.ListN.{length, take, drop, length-map, take-append-drop}
-use lib.Seq.{drop-drop, drop-length}
+use lib.ListN.{length, take, drop, take-append-drop}
+use lib.Seq.{drop-drop}
 use lib.Dec.{ltb, eqb}
 use borrow.Author.Tests.{lt-ltb, le-ltb, eq-eqb, ne-eqb}
+use Rattle.kind.specs.declared.Kind.{Kind}
+use Rattle.kind.specs.Kinds.{kindOf, leavesLeft, leavesRight}
 use Rattle.channel.specs.Sheet.{Terminal, Sheet}
-use Rattle.channel.specs.Density.{pins, crossing, crosses, weight, weightOf, netsOf, columnDensity, maximumTo, density}
+use Rattle.channel.specs.Density.{pins, crossing, crossingOf, crosses, distinct, netsOf}
+use Rattle.channel.specs.Density.{weight, weightOf, columnDensity, maximumTo, density}
 use Rattle.channel.specs.Word.{Letter, hasTop, hasBottom, columnsOf}
 use Rattle.channel.specs.Word.Letter.{empty, top, bottom, both}
 use Rattle.channel.specs.Cut.{count, nets, has, leftOf, hereOf, rightOf, leftNets, hereNets}
@@ -80,10 +83,21 @@ next-right : (h : Bool) (i : ℕ) (ns : List ℕ) → hereOf h (cond h (suc i) i
 next-right true i ns = rw (drop-drop 1 i ns, add-one) at (take-append-drop 1 (drop i ns))
 next-right false i ns = refl
 
--- an empty column's load is at most that of the next column to its right: what crosses it has a pin left of it and one right of it
-pub empty-load : (s : Sheet) (a : Letter) (i j : ℕ) → load s empty i j ≤ load s a (cond (hasTop a) (suc i) i) (cond (hasBottom a) (suc j) j)
+-- left of the next column stands what stands left of this one or in it
+next-here : (h : Bool) (i : ℕ) (ns : List ℕ) → leftOf h (cond h (suc i) i) ns ++ hereOf h (cond h (suc i) i) ns ≡ take (cond h (suc i) i) ns
+next-here true i ns = take-more i ns
+  where
+    take-more : (i : ℕ) (ns : List ℕ) → take i ns ++ take 1 (drop i ns) ≡ take (suc i) ns
+    take-more zero ns = refl
+    take-more (suc i) [] = refl
+    take-more (suc i) (n ∷ ns) = ap (λ (ms : List ℕ). n ∷ ms) (take-more i ns)
+next-here false i ns = append-nil (take i ns)
+
+-- an empty column's load is at most that of the next column to its right: what crosses it reaches left of it and right of it
+pub empty-load-right : (s : Sheet) (a : Letter) (i j : ℕ)
+    → load s empty i j ≤ load s a (cond (hasTop a) (suc i) i) (cond (hasBottom a) (suc j) j)
 unfolding load
-empty-load s a i j = weight-mono _ _ more (netsOf s)
+empty-load-right s a i j = weight-mono _ _ more (netsOf s)
   where
     x : ℕ
     x = cond (hasTop a) (suc i) i
@@ -99,26 +113,71 @@ empty-load s a i j = weight-mono _ _ more (netsOf s)
         rw (← next-right (hasTop a) i (nets (s .top)), ← next-right (hasBottom a) j (nets (s .bottom)))
         (rw any-swap)
 
-    cross : (l h r : Bool) → crossing l false (h || r) ≡ true → crossing l h r ≡ true
-    cross true h r e = e
-    cross false h r e = absurd (false≢true e)
+    cross : (k : Kind) (l h r : Bool) → crossingOf k l false (h || r) ≡ true → crossingOf k l h r ≡ true
+    cross k l h r = go (leavesLeft k || l) (leavesRight k)
+      where
+        go : (x y : Bool) → crossing x false (y || (h || r)) ≡ true → crossing x h (y || r) ≡ true
+        go true true e = rw or-true
+        go true false e = e
+        go false y e = absurd (false≢true e)
 
     more : (n : ℕ)
         → crossesCut n (leftNets s empty i j) (hereNets s empty i j) (rightNets s i j) ≡ true
         → crossesCut n (leftNets s a x y) (hereNets s a x y) (rightNets s x y) ≡ true
-    more n e = rw left (cross (has n (leftNets s empty i j)) (has n (hereNets s a x y)) (has n (rightNets s x y)) (rw (right n) at e))
+    more n e =
+        rw left
+        (cross (kindOf n) (has n (leftNets s empty i j)) (has n (hereNets s a x y)) (has n (rightNets s x y)) (rw (right n) at e))
 
--- where every pin stands at or left of an empty column, nothing crosses it
-pub last-load : (s : Sheet) → load s empty (length (s .top)) (length (s .bottom)) ≡ 0
+-- and at most that of the next column to its left
+pub empty-load-left : (s : Sheet) (a : Letter) (i j : ℕ)
+    → let x : ℕ = cond (hasTop a) (suc i) i in
+    let y : ℕ = cond (hasBottom a) (suc j) j in
+    load s empty x y ≤ load s a x y
 unfolding load
-last-load s = none _ (λ n. rw (right (s .top), right (s .bottom), and-false)) (netsOf s)
+empty-load-left s a i j = weight-mono _ _ more (netsOf s)
   where
-    none : (f : ℕ → Bool) → ((n : ℕ) → f n ≡ false) → (ns : List ℕ) → weightOf f ns ≡ 0
-    none f e [] = refl
-    none f e (n ∷ ns) = rw (e n, none f e ns)
+    x : ℕ
+    x = cond (hasTop a) (suc i) i
 
-    right : (ts : List Terminal) → drop (length ts) (nets ts) ≡ []
-    right ts = rw (length-map ts (λ (t : Terminal). t .net)) at (drop-length (nets ts))
+    y : ℕ
+    y = cond (hasBottom a) (suc j) j
+
+    left : (n : ℕ) → has n (leftNets s empty x y) ≡ (has n (leftNets s a x y) || has n (hereNets s a x y))
+    left n =
+        rw (← next-here (hasTop a) i (nets (s .top)), ← next-here (hasBottom a) j (nets (s .bottom)))
+        (rw any-swap)
+
+    cross : (k : Kind) (l h r : Bool) → crossingOf k (l || h) false r ≡ true → crossingOf k l h r ≡ true
+    cross k l h r = go (leavesLeft k) l h (leavesRight k || r)
+      where
+        go : (x l h y : Bool) → crossing (x || (l || h)) false y ≡ true → crossing (x || l) h y ≡ true
+        go true l true y e = refl
+        go true l false y e = e
+        go false true true y e = refl
+        go false true false y e = e
+        go false false true true e = refl
+        go false false true false e = e
+        go false false false y e = e
+
+    more : (n : ℕ)
+        → crossesCut n (leftNets s empty x y) (hereNets s empty x y) (rightNets s x y) ≡ true
+        → crossesCut n (leftNets s a x y) (hereNets s a x y) (rightNets s x y) ≡ true
+    more n e = cross (kindOf n) (has n (leftNets s a x y)) (has n (hereNets s a x y)) (has n (rightNets s x y)) (rw (left n) at e)
+
+-- so a column right of all pins has a load no greater than that of an occupied one, and with no pins at all it is 0
+last-load : (s : Sheet) (w : List Letter) → count hasTop w ≡ length (s .top) → count hasBottom w ≡ length (s .bottom)
+    → load s empty (count hasTop w) (count hasBottom w) ≤ wordLoad s w
+unfolding load netsOf
+last-load s [] h k = none _ (s .top) (s .bottom) h k
+  where
+    none : (f : ℕ → Bool) (ts us : List Terminal) → 0 ≡ length ts → 0 ≡ length us → weightOf f (distinct (nets (ts ++ us))) ≤ 0
+    none f [] [] h k = le-refl 0
+    none f [] (u ∷ us) h k = absurd (omega arith)
+    none f (t ∷ ts) us h k = absurd (omega arith)
+last-load s (empty ∷ w) h k = le-trans (last-load s w h k) (le-max-right 0 (wordLoad s w))
+last-load s (top ∷ w) h k = le-trans (empty-load-left s top (count hasTop w) (count hasBottom w)) (le-max-left _ (wordLoad s w))
+last-load s (bottom ∷ w) h k = le-trans (empty-load-left s bottom (count hasTop w) (count hasBottom w)) (le-max-left _ (wordLoad s w))
+last-load s (both ∷ w) h k = le-trans (empty-load-left s both (count hasTop w) (count hasBottom w)) (le-max-left _ (wordLoad s w))
 
 -- the greatest load of a word's columns, the empty ones too
 columnsLoad : Sheet → List Letter → ℕ
@@ -144,7 +203,7 @@ unfolding columnsLoad
 only-occupied s [] m h = refl
 only-occupied s (a ∷ w) m h =
     let new : load s empty (count hasTop w) (count hasBottom w) ≤ max m (firstLoad s a w) =
-    le-trans (empty-load s a (count hasTop w) (count hasBottom w)) (le-max-right m (firstLoad s a w)) in
+    le-trans (empty-load-right s a (count hasTop w) (count hasBottom w)) (le-max-right m (firstLoad s a w)) in
     simp (← max-assoc) (rw (only-occupied s w (max m (firstLoad s a w)) new, first-kept s a w m h))
 
 -- the columns of the letters u of a word v ++ u
@@ -155,6 +214,16 @@ columns-load s v [] h k = refl
 columns-load s v (a ∷ u) h k =
     ap₂ max (column-load s v a u h k) (rw append-assoc at (columns-load s (v ++ (a ∷ [])) u (rw append-assoc h) (rw append-assoc k)))
 
+-- the occupied columns are some of a word's columns
+occupied-columns : (s : Sheet) (w : List Letter) → wordLoad s w ≤ columnsLoad s w
+unfolding columnsLoad
+occupied-columns s [] = le-refl 0
+occupied-columns s (a ∷ w) = go (occupied a) (firstLoad s a w) (occupied-columns s w)
+  where
+    go : (t : Bool) (m : ℕ) → wordLoad s w ≤ columnsLoad s w → max (cond t m 0) (wordLoad s w) ≤ max m (columnsLoad s w)
+    go true m h = omega arith
+    go false m h = omega arith
+
 -- the load lemma: for every word with a pin for each terminal, the density of its columns is its load
 pub density-load : (s : Sheet) (w : List Letter)
     → length w ≡ s .columns
@@ -163,6 +232,6 @@ pub density-load : (s : Sheet) (w : List Letter)
     → density s (columnsOf w) ≡ wordLoad s w
 unfolding density
 density-load s w l h k =
-    let e : load s empty (count hasTop w) (count hasBottom w) ≤ 0 = rw (h, k, last-load s) (le-refl 0) in
-    ap (λ (c : ℕ). maximumTo c (columnDensity s (columnsOf w))) (sym l) ∙ columns-load s [] w h k
-    ∙ (simp zero-max at (only-occupied s w 0 e))
+    let level : columnsLoad s w ≡ wordLoad s w =
+    omega (arith, only-occupied s w (wordLoad s w) (last-load s w h k), occupied-columns s w) in
+    ap (λ (c : ℕ). maximumTo c (columnDensity s (columnsOf w))) (sym l) ∙ columns-load s [] w h k ∙ level

@@ -1,20 +1,23 @@
 -- How far a net reaches decides which columns it crosses, and a sum over the terminals in their order counts each net once.
 -- Assumes nothing.
-use Prim.Native.Nat.{ℕ, suc, _+_, _≤_, _<_, min, max}
+use Prim.Native.Nat.{ℕ, zero, suc, _+_, _≤_, _<_, min, max}
 use mathlib.Core.Path.{_≡_, refl, sym, ap, ap₂, _∙_, fun-ext}
 use mathlib.Core.List.{List, [], _∷_, _++_}
-use mathlib.Core.Bool.{Bool, true, false, cond, _&&_, _||_, and-false, or-assoc, or-true, or-false, true≢false}
+use mathlib.Core.Bool.{Bool, true, false, cond, _&&_, _||_, and-false, or-assoc, or-true, or-false}
 use native.Mathlib.Omega.{arith}
-use native.Mathlib.Nat.{zero-add, zero-max}
+use native.Mathlib.Nat.{zero-add}
 use lib.ListN.{length}
 use lib.Dec.{leb, ltb, eqb}
 use borrow.Author.Tests.{leb-true, leb-false, le-leb, lt-leb, ltb-true, ltb-false, lt-ltb, le-ltb, eqb-true, eqb-false, eq-eqb, ne-eqb}
-use Rattle.channel.specs.Sheet.{Terminal, Sheet}
+use Rattle.kind.specs.declared.Kind.{Kind}
+use Rattle.kind.specs.Kinds.{kindOf, leavesLeft, leavesRight, leftStart, rightStart}
+use Rattle.kind.proofs.Starts.{left-start, left-start-before, right-start, right-start-from}
+use Rattle.channel.specs.Sheet.{Sheet}
 use Rattle.channel.specs.Density.{any, Pin, pins, crossing, crosses, distinct, netsOf, weight}
 use Rattle.channel.specs.Density.{weightOf, columnDensity, maximumTo, density}
 use Rattle.channel.specs.Cut.{nets}
-use Rattle.channel.specs.Spans.{netColumns, endFrom, leftmost, rightmost, Below, spans, sumLast}
-use Rattle.channel.proofs.Crossings.{crossed, crosses-columns, no-pin}
+use Rattle.channel.specs.Spans.{netColumns, endFrom, leftmost, rightmost, spans, sumLast}
+use Rattle.channel.proofs.Crossings.{crossed, crosses-columns, any-left, any-right}
 
 -- one pick after the other over a list of columns
 abbrev pickFrom : (ℕ → ℕ → ℕ) → ℕ → List ℕ → ℕ
@@ -59,34 +62,6 @@ leb-max c i j = go (leb c i) refl (leb c j) refl
 ltb-min : (c i j : ℕ) → ltb (min i j) c ≡ (ltb i c || ltb j c)
 ltb-min c i j = ap (λ (k : ℕ). leb k c) (omega arith) ∙ leb-min c (suc i) (suc j)
 
--- at or left of c is left of it or in it; and at or right of it
-leb-left : (c k : ℕ) → leb k c ≡ (ltb k c || eqb k c)
-leb-left c k = go (ltb k c) refl (eqb k c) refl
-  where
-    go : (a : Bool) → ltb k c ≡ a → (b : Bool) → eqb k c ≡ b → leb k c ≡ (a || b)
-    go true e b d = le-leb k c (omega (arith, ltb-true k c e))
-    go false e true d = le-leb k c (omega (arith, eqb-true k c d))
-    go false e false d = lt-leb k c (omega (arith, ltb-false k c e, eqb-false k c d))
-
-leb-right : (c k : ℕ) → leb c k ≡ (ltb c k || eqb k c)
-leb-right c k = go (ltb c k) refl (eqb k c) refl
-  where
-    go : (a : Bool) → ltb c k ≡ a → (b : Bool) → eqb k c ≡ b → leb c k ≡ (a || b)
-    go true e b d = le-leb c k (omega (arith, ltb-true c k e))
-    go false e true d = le-leb c k (omega (arith, eqb-true k c d))
-    go false e false d = lt-leb c k (omega (arith, ltb-false c k e, eqb-false k c d))
-
--- of columns none of which meets the first of two tests, one meets either exactly if one meets the second
-any-second :
-    (f g h : ℕ → Bool) → ((k : ℕ) → f k ≡ (g k || h k)) → (ks : List ℕ) → any g ks ≡ false → any h ks ≡ any f ks
-any-second f g h split [] none = refl
-any-second f g h split (k ∷ ks) none = go (g k) refl (any g ks) (any-second f g h split ks) none
-  where
-    go : (x : Bool) → g k ≡ x → (y : Bool) → (y ≡ false → any h ks ≡ any f ks) → (x || y) ≡ false → (h k || any h ks) ≡ (f k || any f ks)
-    go true e y more q = absurd (true≢false q)
-    go false e true more q = absurd (true≢false q)
-    go false e false more q = rw (split k, e, more refl)
-
 -- a crossing with something on both sides, or on neither, does not ask what stands in the column
 crossing-here : (l h i r : Bool) → (l ≡ false → h ≡ i) → (r ≡ false → h ≡ i) → crossing l h r ≡ crossing l i r
 crossing-here true h i true e d = rw (or-true h, or-true i)
@@ -98,54 +73,77 @@ ends-order : (a b : ℕ) (ks : List ℕ) → a ≤ b → pickFrom min a ks ≤ p
 ends-order a b [] h = h
 ends-order a b (k ∷ ks) h = ends-order (min a k) (max b k) ks (omega arith)
 
--- columns k ∷ ks cross c exactly if their least and greatest do
-crossed-span : (k : ℕ) (ks : List ℕ) (c : ℕ) → crossed (k ∷ ks) c ≡ spans (pickFrom min k ks) (pickFrom max k ks) c
-crossed-span k ks c =
-    crossing-here _ (any (λ (j : ℕ). eqb j c) (k ∷ ks)) (eqb l c || eqb r c) _ at-left at-right
+-- a net of kind k with pins in the columns ks crosses c exactly if its ends do; an end that leaves the channel is in no column
+crossed-span : (k : Kind) (ks : List ℕ) (c : ℕ) → 1 ≤ c → c < 255
+    → crossed k ks c ≡ spans (pickFrom min (leftStart k) ks) (pickFrom max (rightStart k) ks) c
+crossed-span k ks c low high =
+    crossing-here _ (any (λ (j : ℕ). eqb j c) ks) (eqb l c || eqb r c) _ at-left at-right
     ∙ ap₂ (λ (x y : Bool). crossing x (eqb l c || eqb r c) y) (sym left) (sym right)
   where
     l : ℕ
-    l = pickFrom min k ks
+    l = pickFrom min (leftStart k) ks
 
     r : ℕ
-    r = pickFrom max k ks
+    r = pickFrom max (rightStart k) ks
 
-    left : ltb l c ≡ any (λ (j : ℕ). ltb j c) (k ∷ ks)
-    left = pick-any min (λ (j : ℕ). ltb j c) (ltb-min c) k ks
+    left : ltb l c ≡ (leavesLeft k || any (λ (j : ℕ). ltb j c) ks)
+    left = pick-any min (λ (j : ℕ). ltb j c) (ltb-min c) (leftStart k) ks ∙ rw (left-start-before k c high low)
 
-    right : ltb c r ≡ any (λ (j : ℕ). ltb c j) (k ∷ ks)
-    right = pick-any max (λ (j : ℕ). ltb c j) (leb-max (suc c)) k ks
+    right : ltb c r ≡ (leavesRight k || any (λ (j : ℕ). ltb c j) ks)
+    right = pick-any max (λ (j : ℕ). ltb c j) (leb-max (suc c)) (rightStart k) ks ∙ rw (right-start k c high)
 
-    order : l ≤ r
-    order = ends-order k k ks (omega arith)
-
-    -- nothing left of c: what stands in c is the least
-    at-left : any (λ (j : ℕ). ltb j c) (k ∷ ks) ≡ false → any (λ (j : ℕ). eqb j c) (k ∷ ks) ≡ (eqb l c || eqb r c)
-    at-left none =
-        any-second (λ (j : ℕ). leb j c) (λ (j : ℕ). ltb j c) (λ (j : ℕ). eqb j c) (leb-left c) (k ∷ ks) none
-        ∙ sym (pick-any min (λ (j : ℕ). leb j c) (leb-min c) k ks)
-        ∙ go (leb l c) refl
+    -- with a pin, the left end is no further right than the right end; without one, neither is in c
+    order : (ms : List ℕ)
+        → let a : ℕ = pickFrom min (leftStart k) ms in
+        let b : ℕ = pickFrom max (rightStart k) ms in
+        (a ≡ c → c ≤ b) × (b ≡ c → a ≤ c)
+    order [] = (
+      λ e. absurd (apart (leavesLeft k) 0 255 (λ q. omega arith) (λ q. omega arith) e),
+      λ e. absurd (apart (leavesRight k) 255 0 (λ q. omega arith) (λ q. omega arith) e),
+    )
       where
+        apart : (t : Bool) (x y : ℕ) → (x ≡ c → ⊥) → (y ≡ c → ⊥) → cond t x y ≡ c → ⊥
+        apart true x y f g = f
+        apart false x y f g = g
+    order (m ∷ ms) =
+        let turn = ends-order (min (leftStart k) m) (max (rightStart k) m) ms (omega arith) in
+        (λ e. omega arith, λ e. omega arith)
+
+    -- nothing left of c: what stands in c is the left end
+    at-left : (leavesLeft k || any (λ (j : ℕ). ltb j c) ks) ≡ false → any (λ (j : ℕ). eqb j c) ks ≡ (eqb l c || eqb r c)
+    at-left none = sym stands ∙ go (leb l c) refl
+      where
+        stands : leb l c ≡ any (λ (j : ℕ). eqb j c) ks
+        stands =
+            pick-any min (λ (j : ℕ). leb j c) (leb-min c) (leftStart k) ks
+            ∙ rw (left-start k c high, any-left c ks, ← or-assoc, none)
+
         from : c ≤ l
         from = ltb-false l c (left ∙ none)
 
         go : (x : Bool) → leb l c ≡ x → leb l c ≡ (eqb l c || eqb r c)
         go true e = e ∙ rw (eq-eqb l c (omega (arith, leb-true l c e, from)))
-        go false e = let behind = leb-false l c e in e ∙ rw (ne-eqb l c (λ q. omega arith), ne-eqb r c (λ q. omega (arith, order)))
+        go false e =
+            let behind = leb-false l c e in
+            e ∙ rw (ne-eqb l c (λ q. omega arith), ne-eqb r c (λ q. omega (arith, order ks .1 q)))
 
-    -- nothing right of c: it is the greatest
-    at-right : any (λ (j : ℕ). ltb c j) (k ∷ ks) ≡ false → any (λ (j : ℕ). eqb j c) (k ∷ ks) ≡ (eqb l c || eqb r c)
-    at-right none =
-        any-second (λ (j : ℕ). leb c j) (λ (j : ℕ). ltb c j) (λ (j : ℕ). eqb j c) (leb-right c) (k ∷ ks) none
-        ∙ sym (pick-any max (λ (j : ℕ). leb c j) (leb-max c) k ks)
-        ∙ go (leb c r) refl
+    -- nothing right of c: it is the right end
+    at-right : (leavesRight k || any (λ (j : ℕ). ltb c j) ks) ≡ false → any (λ (j : ℕ). eqb j c) ks ≡ (eqb l c || eqb r c)
+    at-right none = sym stands ∙ go (leb c r) refl
       where
+        stands : leb c r ≡ any (λ (j : ℕ). eqb j c) ks
+        stands =
+            pick-any max (λ (j : ℕ). leb c j) (leb-max c) (rightStart k) ks
+            ∙ rw (right-start-from k c high low, any-right c ks, ← or-assoc, none)
+
         to : r ≤ c
         to = ltb-false c r (right ∙ none)
 
         go : (x : Bool) → leb c r ≡ x → leb c r ≡ (eqb l c || eqb r c)
         go true e = e ∙ rw (eq-eqb r c (omega (arith, leb-true c r e, to)), or-true)
-        go false e = let before = leb-false c r e in e ∙ rw (ne-eqb l c (λ q. omega (arith, order)), ne-eqb r c (λ q. omega arith))
+        go false e =
+            let before = leb-false c r e in
+            e ∙ rw (ne-eqb l c (λ q. omega (arith, order ks .0 q)), ne-eqb r c (λ q. omega arith))
 
 -- a net from one column to another crosses each from the one to the other, where the two differ
 pub spans-from : (l r c : ℕ) → spans l r c ≡ (ltb l r && (leb l c && leb c r))
@@ -177,37 +175,13 @@ spans-from l r c = go (ltb l c) refl (ltb c r) refl
         let y = ltb-false c r d in
         rw (and-false, and-false, le-ltb l r (omega arith))
 
--- the two ends of a net with pins are the least and the greatest of its columns, if the first is not above 255
-net-ends : (ps : List Pin) (n k : ℕ) (ks : List ℕ) → netColumns n ps ≡ k ∷ ks → k ≤ 255
-    → (leftmost n ps ≡ pickFrom min k ks) × (rightmost n ps ≡ pickFrom max k ks)
+-- "A net crosses column c when its leftmost pin is at or left of c, its rightmost at or right of c, and some pin is not in c", where an end
+-- that leaves the channel is past every column: its left end is left of its right end, and c lies from the one to the other
+pub crosses-span : (ps : List Pin) (n c : ℕ) → 1 ≤ c → c < 255 → crosses ps n c ≡ spans (leftmost n ps) (rightmost n ps) c
 unfolding leftmost rightmost
-net-ends ps n k ks e h =
-    let first : min 255 k ≡ k = omega arith in
-    (rw (end-columns min 255 n ps, e, first), rw (end-columns max 0 n ps, e, zero-max))
-
--- what they are for a net with no pin
-pub no-pin-ends : (ps : List Pin) (n : ℕ) → netColumns n ps ≡ [] → (leftmost n ps ≡ 255) × (rightmost n ps ≡ 0)
-unfolding leftmost rightmost
-no-pin-ends ps n e = (rw (end-columns min 255 n ps, e), rw (end-columns max 0 n ps, e))
-
--- "A net crosses column c when its leftmost pin is at or left of c, its rightmost at or right of c, and some pin is not in c":
--- for every net with no pin above column 255, this is so when its leftmost is left of its rightmost and c lies from one to the other
-pub crosses-span : (ps : List Pin) (n c : ℕ) → Below 255 (netColumns n ps) → crosses ps n c ≡ spans (leftmost n ps) (rightmost n ps) c
-crosses-span ps n c h = go (netColumns n ps) refl h
-  where
-    go : (ks : List ℕ) → netColumns n ps ≡ ks → Below 255 ks → crosses ps n c ≡ spans (leftmost n ps) (rightmost n ps) c
-    go [] e b = let (l, r) = no-pin-ends ps n e in rw (no-pin ps n e c, l, r) (sym (spans-from 255 0 c))
-    go (k ∷ ks) e b = let (l, r) = net-ends ps n k ks e (b .0) in rw (crosses-columns ps n c, e, l, r) (crossed-span k ks c)
-
--- where no column of a list is above b, no pin of a net stands above b
-pub below-pins : (b n : ℕ) (ts : List Terminal) (cs : List ℕ) → Below b cs → Below b (netColumns n (pins ts cs))
-below-pins b n [] cs h = tt
-below-pins b n (t ∷ ts) [] h = tt
-below-pins b n (t ∷ ts) (c ∷ cs) h = go (eqb (t .net) n) (below-pins b n ts cs (h .1))
-  where
-    go : (x : Bool) → Below b (netColumns n (pins ts cs)) → Below b (cond x (c ∷ netColumns n (pins ts cs)) (netColumns n (pins ts cs)))
-    go true r = (h .0, r)
-    go false r = r
+crosses-span ps n c h k =
+    rw (crosses-columns ps n c, end-columns min (leftStart (kindOf n)) n ps, end-columns max (rightStart (kindOf n)) n ps)
+    (crossed-span (kindOf n) (netColumns n ps) c h k)
 
 -- distinct numbers of a list are no more than the list has
 pub length-distinct : (ns : List ℕ) → length (distinct ns) ≤ length ns
@@ -241,13 +215,18 @@ pub density-last : (s : Sheet) (cs : List ℕ)
 unfolding density
 density-last s cs = ap (maximumTo (s .columns)) (fun-ext (column-last s cs))
 
--- the same from the nets' ends, where no column of the list is above 255
-pub density-spans : (s : Sheet) (cs : List ℕ) → Below 255 cs
+-- a maximum over the columns 1 to l depends on these columns alone
+maximum-same : (l : ℕ) (f g : ℕ → ℕ) → ((c : ℕ) → 1 ≤ c → c ≤ l → f c ≡ g c) → maximumTo l f ≡ maximumTo l g
+maximum-same zero f g h = refl
+maximum-same (suc l) f g h = ap₂ max (h (suc l) (omega arith) (omega arith)) (maximum-same l f g (λ c p q. h c p (omega arith)))
+
+-- the same from the nets' ends, on a channel of less than 255 columns
+pub density-spans : (s : Sheet) (cs : List ℕ) → s .columns < 255
     → let ps : List Pin = pins (s .top ++ s .bottom) cs in
     density s cs
     ≡ maximumTo (s .columns) (λ (c : ℕ). sumLast (λ (n : ℕ). spans (leftmost n ps) (rightmost n ps) c) (nets (s .top ++ s .bottom)))
 density-spans s cs h =
-    let ts : List Terminal = s .top ++ s .bottom in
+    let ps : List Pin = pins (s .top ++ s .bottom) cs in
     density-last s cs
-    ∙ ap (λ (f : ℕ → ℕ → Bool). maximumTo (s .columns) (λ (c : ℕ). sumLast (f c) (nets ts)))
-    (fun-ext (λ (c : ℕ). fun-ext (λ (n : ℕ). crosses-span (pins ts cs) n c (below-pins 255 n ts cs h))))
+    ∙ maximum-same (s .columns) _ _
+    (λ c p q. ap (λ (f : ℕ → Bool). sumLast f (nets (s .top ++ s .bottom))) (fun-ext (λ n. crosses-span ps n c p (omega arith))))

@@ -6,8 +6,9 @@ use mathlib.Core.List.{List, [], _∷_, _++_, map}
 use mathlib.Core.Bool.{Bool, cond, _||_}
 use lib.ListN.{take, drop}
 use lib.Dec.{eqb}
+use Rattle.kind.specs.Kinds.{kindOf}
 use Rattle.channel.specs.Sheet.{Terminal, Sheet}
-use Rattle.channel.specs.Density.{any, crossing, weightOf, netsOf}
+use Rattle.channel.specs.Density.{any, crossingOf, weightOf, netsOf}
 use Rattle.channel.specs.Word.{Letter, hasTop, hasBottom}
 
 -- how many letters of a word f holds of: with hasTop, its top pins
@@ -50,7 +51,7 @@ rightNets s i j = rightOf i (nets (s .top)) ++ rightOf j (nets (s .bottom))
 
 -- a net crosses a column with these nets left of it, in it and right of it
 abbrev pub crossesCut : ℕ → List ℕ → List ℕ → List ℕ → Bool
-crossesCut n left here right = crossing (has n left) (has n here) (has n right)
+crossesCut n left here right = crossingOf (kindOf n) (has n left) (has n here) (has n right)
 
 -- the load of that column: the weights of the nets that cross it
 unfoldable pub load : Sheet → Letter → ℕ → ℕ → ℕ

@@ -1,9 +1,12 @@
--- How many nets cross a column, and the density of a column list (document 01, "Column, crossing, density"; document 003, section 4.1).
+-- How many nets cross a column, and the density of a column list (document 01, "Column, crossing, density"; document 02, T-03;
+-- document 003, section 4.1).
 -- Assumes nothing.
 use Prim.Native.Nat.{ℕ, zero, suc, _+_, max}
 use mathlib.Core.List.{List, [], _∷_, _++_, map}
 use mathlib.Core.Bool.{Bool, false, cond, _&&_, _||_}
 use lib.Dec.{ltb, eqb}
+use Rattle.kind.specs.declared.Kind.{Kind}
+use Rattle.kind.specs.Kinds.{kindOf, leavesLeft, leavesRight}
 use Rattle.channel.specs.Sheet.{Terminal, Sheet}
 
 abbrev pub any {ℓ} : {A : Type ℓ} → (A → Bool) → List A → Bool
@@ -24,21 +27,26 @@ pins (t ∷ ts) (c ∷ cs) = record { net = t .net; column = c } ∷ pins ts cs
 abbrev pub somePin : (ℕ → Bool) → ℕ → List Pin → Bool
 somePin f n = any (λ (p : Pin). eqb (p .net) n && f (p .column))
 
--- The one rule of counting. A net that has pins left of a column, in it and right of it, or not, crosses the column: "its leftmost pin is
--- at or left of c, its rightmost at or right of c, and some pin is not in c"
+-- The one rule of counting. A net that reaches left of a column, stands in it and reaches right of it, or not, crosses the column: "its
+-- leftmost pin is at or left of c, its rightmost at or right of c, and some pin is not in c"
 abbrev pub crossing : Bool → Bool → Bool → Bool
 crossing left here right = (left || here) && ((here || right) && (left || right))
+
+-- The same of a net of kind k that has pins left of the column, in it and right of it, or not. "A leaving net reaches column 1, column L or
+-- both, and counts even in a column holding all its pins": past the end by which it leaves, it reaches beyond every column
+abbrev pub crossingOf : Kind → Bool → Bool → Bool → Bool
+crossingOf k left here right = crossing (leavesLeft k || left) here (leavesRight k || right)
 
 -- "A net crosses column c when .."
 unfoldable pub crosses : List Pin → ℕ → ℕ → Bool
 crosses ps n c =
-    crossing (somePin (λ (k : ℕ). ltb k c) n ps) (somePin (λ (k : ℕ). eqb k c) n ps) (somePin (λ (k : ℕ). ltb c k) n ps)
+    crossingOf (kindOf n) (somePin (λ (k : ℕ). ltb k c) n ps) (somePin (λ (k : ℕ). eqb k c) n ps) (somePin (λ (k : ℕ). ltb c k) n ps)
 
 abbrev pub distinct : List ℕ → List ℕ
 distinct [] = []
 distinct (n ∷ ns) = cond (any (eqb n) ns) (distinct ns) (n ∷ distinct ns)
 
--- a sheet's nets, each once
+-- a sheet's nets, each once: they alone are counted, so each net that counts has a pin
 unfoldable pub netsOf : Sheet → List ℕ
 netsOf s = distinct (map (λ (t : Terminal). t .net) (s .top ++ s .bottom))
 

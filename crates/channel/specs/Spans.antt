@@ -1,9 +1,11 @@
--- How far a net reaches, and a column's density as a loop over the terminals counts it (document 01, "Column, crossing, density").
+-- How far a net reaches, and a column's density as a loop over the terminals counts it (document 01, "Column, crossing, density";
+-- document 02, T-03).
 -- Assumes nothing.
-use Prim.Native.Nat.{ℕ, _+_, _≤_, min, max}
+use Prim.Native.Nat.{ℕ, _+_, min, max}
 use mathlib.Core.List.{List, [], _∷_}
 use mathlib.Core.Bool.{Bool, cond, _||_}
 use lib.Dec.{ltb, eqb}
+use Rattle.kind.specs.Kinds.{kindOf, leftStart, rightStart}
 use Rattle.channel.specs.Density.{any, Pin, crossing, weight}
 
 -- the columns of net n's pins, in their order
@@ -16,20 +18,15 @@ abbrev pub endFrom : (ℕ → ℕ → ℕ) → ℕ → ℕ → List Pin → ℕ
 endFrom pick start n [] = start
 endFrom pick start n (p ∷ ps) = endFrom pick (cond (eqb (p .net) n) (pick start (p .column)) start) n ps
 
--- the columns of net n's leftmost and rightmost pins, where no column is above 255
+-- the columns of net n's leftmost and rightmost pins, where no column is above 254; 0 and 255 where it leaves by that end
 unfoldable pub leftmost : ℕ → List Pin → ℕ
-leftmost n ps = endFrom min 255 n ps
+leftmost n ps = endFrom min (leftStart (kindOf n)) n ps
 
 unfoldable pub rightmost : ℕ → List Pin → ℕ
-rightmost n ps = endFrom max 0 n ps
+rightmost n ps = endFrom max (rightStart (kindOf n)) n ps
 
--- no column of a list is above b
-abbrev pub Below : ℕ → List ℕ → Type 0
-Below b [] = Unit {0}
-Below b (c ∷ cs) = (c ≤ b) × Below b cs
-
--- a net whose leftmost pin stands in column l and whose rightmost in column r crosses column c: its ends tell what stands left of c and
--- right of c, and where nothing stands on one of the two sides, whether something stands in c
+-- a net that reaches from l to r crosses column c: its ends tell what is left of c and right of c, and where nothing is on one of the two
+-- sides, whether something stands in c
 abbrev pub spans : ℕ → ℕ → ℕ → Bool
 spans l r c = crossing (ltb l c) (eqb l c || eqb r c) (ltb c r)
 

@@ -22,7 +22,12 @@ use Rattle.places.specs.Places.{placesOf, placesList, placesAt, Listed}
 use Rattle.places.proofs.Listing.{places-at, length-places}
 use Rattle.cut.specs.Counts.{cutOf, crossesAs, withNet, loadsTo, loadsAt}
 use Rattle.cut.proofs.Stands.{side-left, side-here}
-use Rattle.places.proofs.Sides.{side-right}
+use Rattle.places.proofs.Sides.{last-right}
+
+-- a net that leaves by an end does so on both sides
+either-side : (x u v : Bool) → ((x || u) || (x || v)) ≡ (x || (u || v))
+either-side true u v = refl
+either-side false u v = refl
 
 -- a net crosses the column of a cut exactly if its ends say so
 crosses-as : (a : Letter) (tops bottoms : List ℕ) (i j : ℕ)
@@ -42,10 +47,10 @@ crosses-as a tops bottoms i j p q h k t b n =
       side-left (hasBottom a) n bottoms j b (omega arith),
       side-here (hasTop a) n tops i t h,
       side-here (hasBottom a) n bottoms j b k,
-      side-right n tops i,
-      side-right n bottoms j,
+      last-right n tops i (omega arith),
+      last-right n bottoms j (omega arith),
     )
-    (simp any-append)
+    (simp (any-append, either-side))
 
 -- one net more at the end of a list
 weight-snoc : (f : ℕ → Bool) (ns : List ℕ) (n : ℕ) → weightOf f (ns ++ (n ∷ [])) ≡ weightOf f ns + cond (f n) 1 0

@@ -3,11 +3,12 @@
 use Prim.Native.Nat.{ℕ, zero, suc, _-_, _≤_}
 use mathlib.Core.Path.{_≡_, refl, _∙_}
 use mathlib.Core.List.{List}
-use mathlib.Core.Bool.{Bool, true, false, or-false}
+use mathlib.Core.Bool.{Bool, true, false, _||_, or-false}
 use native.Mathlib.Omega.{arith}
 use lib.ListN.{length, getD}
 use lib.Seq.{drop-cons}
 use lib.Dec.{leb·suc-suc}
+use Rattle.kind.specs.Kinds.{kindOf, leavesLeft}
 use Rattle.channel.specs.Cut.{has, leftOf, hereOf}
 use Rattle.places.specs.Places.{endsOf}
 use Rattle.places.proofs.Sides.{first-left}
@@ -16,7 +17,7 @@ use Rattle.cut.specs.Counts.{standOf, leftTest, hereTest}
 
 -- of one side, with a pin in the column if h
 pub side-left : (h : Bool) (n : ℕ) (ns : List ℕ) (i : ℕ) → (h ≡ true → 1 ≤ i) → i ≤ 64
-    → leftTest h (endsOf ns n .first) i ≡ has n (leftOf h i ns)
+    → leftTest h (endsOf ns n .first) i ≡ (leavesLeft (kindOf n) || has n (leftOf h i ns))
 side-left true n ns zero some k = absurd (omega (arith, some refl))
 side-left true n ns (suc i) some k = leb·suc-suc (endsOf ns n .first) i ∙ first-left n ns i (omega arith)
 side-left false n ns i some k = first-left n ns i (omega arith)

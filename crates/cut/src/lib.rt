@@ -42,7 +42,7 @@ pub fn stand_at(ns: &[u16], i: usize) -> Stand
     }
 }
 
-// Whether a net with pins left of the column, in it and right of it, or not, crosses it.
+// Whether a net that reaches left of the column, stands in it and reaches right of it, or not, crosses it.
 fn crosses(left: bool, here: bool, right: bool) -> bool
     ensures { λ r. ⌜ r ≡ crossing left here right ⌝ }
 {

@@ -1,13 +1,12 @@
 -- The density of a column list is the greatest of the counts of its columns.
 -- Assumes nothing.
-use Prim.Native.Nat.{ℕ, suc, _≤_}
+use Prim.Native.Nat.{ℕ, _<_}
 use mathlib.Core.Path.{_≡_, refl, _∙_, ap}
 use mathlib.Core.List.{List, [], _∷_, _++_}
-use lib.ListN.{getD}
 use Rattle.channel.specs.Sheet.{Terminal, sheetWith}
 use Rattle.channel.specs.Density.{Pin, pins, maximumTo, density}
 use Rattle.channel.specs.Cut.{nets}
-use Rattle.channel.specs.Spans.{Below, sumLast}
+use Rattle.channel.specs.Spans.{sumLast}
 use Rattle.channel.proofs.Spans.{density-spans}
 use Rattle.spans.specs.Spans.{pinsOf}
 use Rattle.density.specs.Counted.{netSpans, countedAt}
@@ -18,14 +17,9 @@ pins-nets [] cs = refl
 pins-nets (t ∷ ts) [] = refl
 pins-nets (t ∷ ts) (c ∷ cs) = ap (λ (ps : List Pin). record { net = t .net; column = c } ∷ ps) (pins-nets ts cs)
 
--- a list of bytes has no column above 255
-pub bytes-below : (cs : List ℕ) → ((i : ℕ) → getD cs i 0 ≤ 255) → Below 255 cs
-bytes-below [] h = tt
-bytes-below (c ∷ cs) h = (h 0, bytes-below cs (λ i. h (suc i)))
-
 -- the density is the greatest of the counts
 pub density-counted :
-    (l : ℕ) (ts us : List Terminal) (cs : List ℕ) → Below 255 cs
+    (l : ℕ) (ts us : List Terminal) (cs : List ℕ) → l < 255
     → density (sheetWith l ts us) cs ≡ maximumTo l (countedAt (nets (ts ++ us)) cs)
 unfolding countedAt
 density-counted l ts us cs h =

@@ -92,7 +92,7 @@ added-all a b before now added c = added c ∙ ap (λ (t : Bool). getD before c 
     last true e = lt-ltb c (b + 1) (omega (arith, leb-true c b e))
     last false e = le-ltb c (b + 1) (omega (arith, leb-false c b e))
 
--- one net is counted where it crosses: from its leftmost to its rightmost pin, if they differ
+-- one net is counted where it crosses: from its left end to its right end, if they differ
 module _ (ps : List Pin) (n : ℕ) (span : Span) (answer : span ≡ spanOf n ps) (before : List ℕ) where
   by-ends : (c : ℕ) → netSpans ps c n ≡ (ltb (span .left) (span .right) && within (span .left) (span .right) c)
   by-ends c = spans-from (leftmost n ps) (rightmost n ps) c ∙ rw answer

@@ -1,4 +1,4 @@
--- How the density of a column list is counted: each net once, over the columns from its leftmost to its rightmost pin.
+-- How the density of a column list is counted: each net once, over the columns from its left end to its right end.
 -- Assumes nothing.
 use Prim.Native.Nat.{ℕ, _+_, _≤_, _<_}
 use mathlib.Core.Path.{_≡_}
@@ -18,7 +18,7 @@ pub record AsksDensity (top bottom columns : List ℕ) (p l : ℕ) : Type 0 wher
   pub few : length columns ≤ 128
   pub short : l ≤ 64
 
--- whether net n crosses column c, by its leftmost and rightmost pins
+-- whether net n crosses column c, by its two ends
 abbrev pub netSpans : List Pin → ℕ → ℕ → Bool
 netSpans ps c n = spans (leftmost n ps) (rightmost n ps) c
 

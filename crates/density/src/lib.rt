@@ -43,7 +43,7 @@ fn count_nets(nets: &[u16], columns: &[u8], counts: &mut [u16])
     }
 }
 
-// Adds one net to the columns that it crosses: from its leftmost to its rightmost pin, if they differ.
+// Adds one net to the columns that it crosses: from its left end to its right end, if they differ.
 fn count_net(net: u16, nets: &[u16], columns: &[u8], counts: &mut [u16])
     requires { ⌜ (length (now nets) ≡ length (now columns)) × (length (now counts) ≡ 256) × Small (now counts) ⌝ }
     ensures { λ r. ⌜ Added (weight net) (λ (c : ℕ). netSpans (pinsOf (now (nets .entry)) (now (columns .entry))) c net)

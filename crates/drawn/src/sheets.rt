@@ -101,17 +101,34 @@ fn terminal_of(n: u64, plan: Plan, t: usize, digits: u64) -> Record {
     }
 }
 
-// One to five nets. On some sheets they differ in the upper byte only.
+// One to five nets. On some sheets they differ in the upper byte only, and on half of them each has a drawn kind.
 fn net_of(n: u64, t: usize, digits: u64) -> u16 {
-    let net = if n < REGULAR {
-        (digits % 3) as u8 + 1
+    let k = if n < REGULAR {
+        (digits % 3) as u8
     } else {
-        draw(n, 7, t, 1, draw(n, 8, 0, 1, 5))
+        draw(n, 7, t, 0, draw(n, 8, 0, 0, 4))
     };
-    if draw(n, 9, 0, 0, 3) == 0 {
-        net as u16 * 256
-    } else {
-        net as u16
+    match draw(n, 9, 0, 0, 7) {
+        0 | 1 => 256 * k as u16 + 255,
+        2 | 3 => k as u16 + 1,
+        _ => net_of_kind(draw(n, 26, k as usize, 0, 7), k as u16),
+    }
+}
+
+// A net that is plain or leaves at the left, at the right or at both ends, so many numbers from the first or the last of
+// its kind.
+fn net_of_kind(kind: u8, k: u16) -> u16
+    requires { ⌜ k ≤ 255 ⌝ }
+{
+    match kind {
+        0 => 1 + k,
+        1 => 60000 - k,
+        2 => 60001 + k,
+        3 => 62000 - k,
+        4 => 62001 + k,
+        5 => 64000 - k,
+        6 => 64001 + k,
+        _ => 65535 - k,
     }
 }
 

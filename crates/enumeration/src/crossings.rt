@@ -3,6 +3,35 @@ use crate::List;
 use crate::Sheet;
 use crate::pins;
 
+// What a net has in every column before its pins are looked at, by the ends at which it leaves: 1 for the left, 2 for the
+// right, and 4 for either, as a pin that stands beyond that end would give.
+fn leaves(net: u16) -> u8 {
+    if net <= 60000 {
+        return 0;
+    }
+    if net <= 62000 {
+        return 1 + 4;
+    }
+    if net <= 64000 {
+        return 2 + 4;
+    }
+    1 + 2 + 4
+}
+
+// Whether a net of the sheet leaves the channel.
+pub fn leaving(sheet: Sheet) -> bool {
+    let end = pins(sheet);
+    let mut t = 0;
+    while t < end {
+        let terminal = sheet.terminals[t];
+        if leaves(terminal.net) != 0 {
+            return true;
+        }
+        t += 1;
+    }
+    false
+}
+
 // Of a pin: 1 for at or left of column c, 2 for at or right of it, 4 for not in it, added up.
 fn stands(column: u8, c: u8) -> u8 {
     if column < c {
@@ -15,10 +44,11 @@ fn stands(column: u8, c: u8) -> u8 {
 }
 
 // Whether the net whose first terminal is `first` crosses column c: a pin at or left of c, one at or right of it, and
-// one that is not in it. A net is counted once, so a later terminal of it is none's first.
+// one that is not in it, but for what it has by leaving. A net is counted once, so a later terminal of it is none's
+// first.
 fn crosses(sheet: Sheet, list: List, first: usize, net: u16, c: u8) -> bool {
     let end = pins(sheet);
-    let mut seen: u8 = 0;
+    let mut seen = leaves(net);
     let mut t = 0;
     while t < end {
         let terminal = sheet.terminals[t];

@@ -8,6 +8,7 @@ pub use assignments::Best;
 pub use assignments::find_best;
 pub use assignments::first_amount;
 pub use crossings::density;
+pub use crossings::leaving;
 pub use lists::count_lists;
 pub use lists::list_of;
 use terminal::Record;

@@ -12,9 +12,10 @@ const SHEETS: u64 = 100000;
 
 const MEASUREMENTS: u64 = SHEETS * measures::LISTS as u64;
 
-// Of the sheets so far: those with an assignment, those with a tie, the tally of the measured lists, and the sheets on
-// which a call did not do what it must.
+// Of the sheets so far: those with a net that leaves the channel, those with an assignment, those with a tie, the tally of
+// the measured lists, and the sheets on which a call did not do what it must.
 struct Counts {
+    leaving: u64,
     found: u64,
     tied: u64,
     tally: Tally,
@@ -23,6 +24,7 @@ struct Counts {
 
 fn add(counts: Counts, trial: Trial) -> Counts {
     Counts {
+        leaving: wrapping_add_u64(counts.leaving, trial.leaving as u64),
         found: wrapping_add_u64(counts.found, trial.found as u64),
         tied: wrapping_add_u64(counts.tied, trial.tied as u64),
         tally: measures::together(counts.tally, trial.tally),
@@ -33,7 +35,8 @@ fn add(counts: Counts, trial: Trial) -> Counts {
 fn summary(counts: Counts) {
     let tally = counts.tally;
     number(b"", SHEETS);
-    number(b" sheets, ", counts.found);
+    number(b" sheets, ", counts.leaving);
+    number(b" with a net that leaves, ", counts.found);
     number(b" with an assignment, ", counts.tied);
     number(b" with a tie, ", MEASUREMENTS);
     number(b" measurements, ", tally.assignments);
@@ -45,6 +48,7 @@ fn summary(counts: Counts) {
 
 fn compare_all(work: &mut [u16]) {
     let mut counts = Counts {
+        leaving: 0,
         found: 0,
         tied: 0,
         tally: measures::no_lists(),

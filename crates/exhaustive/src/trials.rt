@@ -13,9 +13,10 @@ use fixtures::front;
 use searched::Searched;
 ghost use Prim.Native.Nat.{_≤_};
 
-// Whether the sheet has an assignment, and more than one of the least density, the tally of its measured lists, and
-// whether a call did not do what it must.
+// Whether a net of the sheet leaves the channel, whether the sheet has an assignment, and more than one of the least
+// density, the tally of its measured lists, and whether a call did not do what it must.
 pub struct Trial {
+    pub leaving: bool,
     pub found: bool,
     pub tied: bool,
     pub tally: Tally,
@@ -211,6 +212,7 @@ pub fn try_sheet(n: u64, work: &mut [u16], shown: bool) -> Trial {
     let measured = measures::measure_all(case, &page);
     let tally = measured.tally;
     Trial {
+        leaving: enumeration::leaving(sheet),
         found: best.found,
         tied: best.tied,
         tally,

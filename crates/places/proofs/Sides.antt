@@ -11,9 +11,11 @@ use lib.ListN.{length, getD, take, drop, drop-of-length-le}
 use lib.Seq.{take-nil, drop-nil, drop-cons}
 use lib.Dec.{leb, ltb, eqb}
 use borrow.Author.Tests.{leb-true, leb-false, le-leb, lt-leb, ltb-true, ltb-false, lt-ltb, le-ltb}
+use Rattle.kind.specs.Kinds.{kindOf, leavesLeft, leavesRight}
+use Rattle.kind.proofs.Starts.{left-start, right-start}
 use Rattle.channel.specs.Cut.{has, rightOf}
 use Rattle.places.specs.declared.Ends.{Ends}
-use Rattle.places.specs.Places.{reached, endsFrom, noEnds, endsOf}
+use Rattle.places.specs.Places.{reached, endsFrom, startOf, endsOf}
 
 -- a scan for the ends of a net
 pub ends-at : (e : Ends) (n : ℕ) (ns : List ℕ) (i : ℕ) → i < length ns
@@ -66,11 +68,13 @@ last-from : (e : Ends) (n k : ℕ) (ns : List ℕ) (c : ℕ) → ltb c (endsFrom
 last-from e n k [] c = rw (drop-nil (c - k), or-false)
 last-from e n k (m ∷ ns) c = rw (last-from (reached (eqb m n) e (suc k)) n (suc k) ns c, last-more, has-drop, or-assoc)
 
--- so a net has a pin among the first c of one side exactly if its first place is at most c, and one behind them if its last is above c
-pub first-left : (n : ℕ) (ns : List ℕ) (c : ℕ) → c < 255 → leb (endsOf ns n .first) c ≡ has n (take c ns)
-unfolding endsOf
-first-left n ns c h = rw (first-from noEnds n 0 ns c, sub-zero, lt-leb 255 c h)
+-- so a net leaves at the left or has a pin among the first c of one side exactly if its first place is at most c, and leaves at the right
+-- or has a pin behind them exactly if its last is above c
+module _ (n : ℕ) (ns : List ℕ) (c : ℕ) (h : c < 255) where
+  pub first-left : leb (endsOf ns n .first) c ≡ (leavesLeft (kindOf n) || has n (take c ns))
+  unfolding endsOf
+  first-left = rw (first-from (startOf n) n 0 ns c, sub-zero, left-start (kindOf n) c h)
 
-pub side-right : (n : ℕ) (ns : List ℕ) (i : ℕ) → ltb i (endsOf ns n .last) ≡ has n (rightOf i ns)
-unfolding endsOf
-side-right n ns i = rw (last-from noEnds n 0 ns i, sub-zero, le-ltb i 0 (omega arith))
+  pub last-right : ltb c (endsOf ns n .last) ≡ (leavesRight (kindOf n) || has n (rightOf c ns))
+  unfolding endsOf
+  last-right = rw (last-from (startOf n) n 0 ns c, sub-zero, right-start (kindOf n) c h)

@@ -6,6 +6,7 @@ use mathlib.Core.List.{List, [], _∷_, _++_}
 use mathlib.Core.Bool.{Bool, true, false, cond}
 use lib.ListN.{length, getD, take, drop}
 use lib.Dec.{eqb}
+use Rattle.kind.specs.Kinds.{kindOf, leftStart, rightStart}
 use Rattle.channel.specs.Density.{any, distinct}
 use Rattle.places.specs.declared.Ends.{Ends}
 use Rattle.places.specs.declared.NetPlaces.{NetPlaces}
@@ -20,12 +21,13 @@ abbrev pub endsFrom : Ends → ℕ → ℕ → List ℕ → Ends
 endsFrom e n k [] = e
 endsFrom e n k (m ∷ ns) = endsFrom (reached (eqb m n) e (suc k)) n (suc k) ns
 
--- the first and last place of net n among the nets of one side; 255 and 0 if it has no pin there
-abbrev pub noEnds : Ends
-noEnds = record { first = 255; last = 0 }
+-- the ends of net n before its pins are seen
+abbrev pub startOf : ℕ → Ends
+startOf n = record { first = leftStart (kindOf n); last = rightStart (kindOf n) }
 
+-- the first and last place of net n among the nets of one side, past all of them at an end by which it leaves
 unfoldable pub endsOf : List ℕ → ℕ → Ends
-endsOf ns n = endsFrom noEnds n 0 ns
+endsOf ns n = endsFrom (startOf n) n 0 ns
 
 -- net n with its ends on the two sides
 abbrev pub placesOf : List ℕ → List ℕ → ℕ → NetPlaces

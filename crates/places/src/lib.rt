@@ -1,4 +1,7 @@
 // The list of the nets of both sides, each once, with its first and last place on each side.
+use kind::kind_of;
+use kind::left_start;
+use kind::right_start;
 use nets::occurs;
 ghost use mathlib.Core.Path.{_≡_};
 ghost use mathlib.Core.List.{_++_};
@@ -6,7 +9,8 @@ ghost use Prim.Native.Nat.{_+_, _*_, _≤_, _<_, min, max};
 ghost use lib.ListN.{length, take, drop};
 ghost use Rattle.places.specs.Places.{reached, endsOf, placesOf, numbersOf, placesAt, AsksPlaces, Put, PlacesListed};
 
-// The first and last place of a net on one side, from 1; 255 and 0 if it has no pin there.
+// The first and last place of a net on one side, from 1. A net that leaves at the left has first 0, one that leaves at the right last 255;
+// any other has 255 and 0 where it has no pin on the side.
 pub struct Ends {
     pub first: u16,
     pub last: u16,
@@ -50,9 +54,10 @@ fn ends_of(ns: &[u16], net: u16) -> Ends
     requires { ⌜ length (now ns) ≤ 64 ⌝ }
     ensures { λ r. ⌜ r ≡ endsOf (now (ns .entry)) net ⌝ }
 {
+    let kind = kind_of(net);
     let mut e = Ends {
-        first: 255,
-        last: 0,
+        first: left_start(kind) as u16,
+        last: right_start(kind) as u16,
     };
     let mut i = 0;
     while i < ns.len() {

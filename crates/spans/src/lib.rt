@@ -1,11 +1,14 @@
 // How far each net reaches in a column list.
+use kind::kind_of;
+use kind::left_start;
+use kind::right_start;
 ghost use mathlib.Core.Path.{_≡_};
 ghost use mathlib.Core.Bool.{cond};
 ghost use Prim.Native.Nat.{min, max};
 ghost use lib.ListN.{length};
 ghost use Rattle.spans.specs.Spans.{pinsOf, spanOf};
 
-// The columns of a net's leftmost and rightmost pins.
+// The columns of a net's leftmost and rightmost pins; 0 and 255 where it leaves by that end.
 pub struct Span {
     pub left: u8,
     pub right: u8,
@@ -16,8 +19,9 @@ pub fn span_of(net: u16, nets: &[u16], columns: &[u8]) -> Span
     requires { ⌜ length (now nets) ≡ length (now columns) ⌝ }
     ensures { λ r. ⌜ r ≡ spanOf net (pinsOf (now (nets .entry)) (now (columns .entry))) ⌝ }
 {
-    let mut left: u8 = 255;
-    let mut right: u8 = 0;
+    let kind = kind_of(net);
+    let mut left = left_start(kind);
+    let mut right = right_start(kind);
     let mut i = 0;
     while i < nets.len() {
         let own = nets[i] == net;

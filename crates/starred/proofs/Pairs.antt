@@ -5,6 +5,7 @@ use mathlib.Core.Path.{_≡_, refl, sym, _∙_}
 use mathlib.Core.Bool.{true, false, true≢false}
 use native.Mathlib.Omega.{arith}
 use Rattle.channel.specs.Assignment.{allows, fits}
+use Rattle.kind.specs.Kinds.{kindOf}
 use Rattle.channel.specs.Density.{crosses, netsOf, columnDensity, density}
 use Rattle.channel.specs.Word.{word, columnsOf, words}
 use Rattle.channel.specs.Best.{bestOf, best}
@@ -67,8 +68,8 @@ later-free n =
     }
 
 pub paired : Paired
-unfolding fits crosses netsOf columnDensity density word columnsOf words bestOf best little terminalAt terminalsFrom trailerOf sheetBytes
-    hasMark bytesOf terminalsIn laidOut trailerCheck formOf terminalCheck checkOf sheetOf read answerIn searchedOf columnsAfter
+unfolding fits kindOf crosses netsOf columnDensity density word columnsOf words bestOf best little terminalAt terminalsFrom trailerOf
+    sheetBytes hasMark bytesOf terminalsIn laidOut trailerCheck formOf terminalCheck checkOf sheetOf read answerIn searchedOf columnsAfter
 paired =
     record {
       A-2-reads = refl;

@@ -3,6 +3,7 @@
 use mathlib.Core.Path.{refl}
 use Rattle.channel.specs.Assignment.{fits, topColumns, bottomColumns, assignment?}
 use Rattle.channel.specs.Distance.{amount}
+use Rattle.kind.specs.Kinds.{kindOf}
 use Rattle.channel.specs.Density.{crosses, netsOf, columnDensity, density}
 use Rattle.channel.specs.Word.{word, columnsOf, words}
 use Rattle.channel.specs.Best.{bestOf, best}
@@ -22,7 +23,7 @@ use Rattle.search.specs.Answer.{answerIn, searchedOf, columnsAfter}
 use Rattle.starred.specs.Table.{Starred}
 
 pub starred : Starred
-unfolding fits topColumns bottomColumns assignment? crosses netsOf columnDensity density word columnsOf words bestOf best
+unfolding fits topColumns bottomColumns assignment? kindOf crosses netsOf columnDensity density word columnsOf words bestOf best
     little terminalAt terminalsFrom trailerOf hasMark bytesOf terminalsIn laidOut trailerCheck formOf terminalCheck checkOf
     sheetOf read shapeOf sheetBytes
     layoutOf openedOf amount allAllowed firstAmount columnsListed sheetListed listedOf measuredOf answerIn searchedOf columnsAfter

@@ -1,4 +1,4 @@
--- `density::count_net` meets its contract: 1 is added from the net's leftmost to its rightmost pin, if they differ.
+-- `density::count_net` meets its contract: 1 is added from the net's left end to its right end, if they differ.
 -- Assumes nothing.
 use borrow.Author.Needs.{needs}
 use Rattle.density.proofs.count_net.Statement.{statement}

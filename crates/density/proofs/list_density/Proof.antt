@@ -2,7 +2,7 @@
 -- Assumes nothing.
 use borrow.Author.Needs.{needs}
 use Rattle.density.proofs.list_density.Statement.{statement}
-use Prim.Native.Nat.{ℕ, _≤_}
+use Prim.Native.Nat.{ℕ, _≤_, _<_}
 use mathlib.Core.Path.{_≡_, refl, sym, _∙_, ap, fun-ext, subst}
 use mathlib.Core.List.{List, _++_}
 use native.Mathlib.Omega.{arith}
@@ -12,7 +12,7 @@ use Rattle.channel.specs.Density.{maximumTo}
 use Rattle.format.specs.Parts.{terminalsIn}
 use Rattle.density.specs.Counted.{countedAt}
 use Rattle.nets.proofs.Nets.{length-nets}
-use Rattle.density.proofs.Counted.{bytes-below, density-counted}
+use Rattle.density.proofs.Counted.{density-counted}
 use Rattle.density.proofs.list_density.Tie as tie
 
 slice-aggregate-all-nets : tie.Need-slice-aggregate-all-nets
@@ -58,7 +58,7 @@ returns c =
     let d = c .before .before .before .before .before .before .before .before in
     let s = d .before .before .before .before .before in
     let a = s .args in
-    let bytes = bytes-below (a .columns .now) (λ (i : ℕ). omega (arith, d .before .before .shared-slice-known3 .given i)) in
+    let short : a .l < 255 = omega (arith, s .pre .short) in
     c .wide .ensures
     ∙ c .before .greatest .ensures
     ∙ ap (maximumTo (a .l))
@@ -66,7 +66,7 @@ returns c =
     (λ (k : ℕ).
     c .before .before .before .before .count-nets .ensures k
     ∙ ap (λ (ns : List ℕ). countedAt ns (a .columns .now) k) (held d ∙ d .all-nets .ensures)))
-    ∙ sym (density-counted (a .l) (terminalsIn (a .top .now)) (terminalsIn (a .bottom .now)) (a .columns .now) bytes)
+    ∙ sym (density-counted (a .l) (terminalsIn (a .top .now)) (terminalsIn (a .bottom .now)) (a .columns .now) short)
 
 pub list-density-spec : {M : Type 1} → statement M
 list-density-spec =

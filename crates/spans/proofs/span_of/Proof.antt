@@ -9,6 +9,7 @@ use native.Mathlib.Omega.{arith}
 use borrow.Author.Needs.{needs}
 use lib.ListN.{length, drop, getD}
 use lib.Dec.{eqb}
+use Rattle.kind.specs.Kinds.{leftStart, rightStart}
 use Rattle.channel.specs.Density.{Pin}
 use Rattle.channel.specs.Spans.{endFrom, leftmost, rightmost}
 use Rattle.spans.specs.Spans.{pinsOf}
@@ -27,7 +28,19 @@ abbrev μ-loop : tie.MeasureT-loop
 
 loop-holds : tie.Need-loop-holds Inv-loop μ-loop
 unfolding leftmost rightmost
-loop-holds c = (omega arith, omega arith, refl, refl)
+loop-holds c =
+    let at-left-start = c .before in
+    let at-kind-of = at-left-start .before in
+    let a = at-kind-of .before .before .before .args in
+    let ps : List Pin = pinsOf (a .nets .now) (a .columns .now) in
+    let kind = at-kind-of .kind-of .ensures in
+    let left = at-left-start .left-start .ensures ∙ ap leftStart kind in
+    let right = c .right-start .ensures ∙ ap rightStart kind in (
+      omega arith,
+      omega arith,
+      ap (λ (k : ℕ). endFrom min k (a .net) ps) (sym left),
+      ap (λ (k : ℕ). endFrom max k (a .net) ps) (sym right),
+    )
 
 -- a pin of the net picks each end anew, and any other keeps it
 left-kept : (own : Bool) (left column : ℕ) → left ≤ 255 → min left (cond own column 255) ≡ cond own (min left column) left
@@ -43,7 +56,7 @@ loop-again c =
     let at-smaller = c .before .before .before in
     let at-loop-test = at-smaller .before .before .before .before in
     let at-loop = at-loop-test .before in
-    let a = at-loop .before .before .before .args in
+    let a = at-loop .before .before .before .before .before .before .args in
     let l = at-loop .loop in
     let inside = at-loop-test .loop-test .taken in
     let own = eqb (getD (a .nets .now) (l .i) 0) (a .net) in
@@ -63,7 +76,7 @@ loop-again c =
 
 returns : tie.Need-returns Inv-loop μ-loop
 returns c =
-    let a = c .before .before .before .before .args in
+    let a = c .before .before .before .before .before .before .before .args in
     let l = c .before .loop in
     ap₂ (λ (x y : ℕ). record { left = x; right = y })
     (sym (l .inv .2 ∙ end-past min (l .left) (a .net) (a .nets .now) (a .columns .now) (l .i) (c .loop-test .left)))
@@ -75,6 +88,9 @@ span-of-spec =
     (tie.spec
     Inv-loop
     μ-loop
+    (λ c κs. search needs)
+    (λ c κs. search needs)
+    (λ c κs. search needs)
     loop-holds
     (λ c. omega arith)
     (λ c. omega arith)

@@ -78,13 +78,29 @@ enum Ranges {
     Mixed,
 }
 
+/// Which nets a channel has: all of one kind, of all leaving kinds, or of all kinds.
+#[derive(Clone, Copy)]
+enum Nets {
+    Plain,
+    Left,
+    Right,
+    Both,
+    Leaving,
+    Mixed,
+}
+
 /// A drawn sound channel with the given length and counts. Three of four are drawn around a column list, which is then an assignment,
 /// and has it beside it.
 pub fn channel(draw: &mut Draw, length: usize, p: usize, q: usize) -> (Channel, Option<Vec<u8>>) {
     let sets = draw.of(&[Sets::All, Sets::Most, Sets::Half, Sets::Stretch, Sets::Few, Sets::Mixed]);
     let ranges = draw.of(&[Ranges::Free, Ranges::Free, Ranges::Near, Ranges::Exact, Ranges::Mixed, Ranges::Mixed]);
+    let nets = match draw.between(0, 10) {
+        0..=3 => Nets::Plain,
+        4..=6 => Nets::Mixed,
+        _ => draw.of(&[Nets::Left, Nets::Right, Nets::Both, Nets::Leaving]),
+    };
     let around = p.max(q) <= length && !draw.once_in(4);
-    let mut pool: Vec<u16> = (0..draw.between(1, p + q + 1)).map(|_| net(draw)).collect();
+    let mut pool: Vec<u16> = (0..draw.between(1, p + q + 1)).map(|_| net(draw, nets)).collect();
     if draw.once_in(3) {
         // each net has two pins, as nearly as the draw allows
         pool.truncate((p + q) / 2 + 1);
@@ -121,7 +137,7 @@ pub fn channel_up_to(draw: &mut Draw, length: usize, p: usize, q: usize) -> (Cha
 
 /// A drawn module that nothing is wrong with on a channel of this length. One that is wider than the channel has the empty set.
 pub fn module(draw: &mut Draw, length: usize, width: usize, pins: usize) -> Module {
-    let pins = rising(draw, width, pins).into_iter().map(|offset| Pin { offset, net: net(draw) }).collect();
+    let pins = rising(draw, width, pins).into_iter().map(|offset| Pin { offset, net: net(draw, Nets::Mixed) }).collect();
     let edges = if width > length { 0 } else { set(draw, Sets::Mixed, length - width + 1, None) };
     Module { width: width as u8, edges, pins }
 }
@@ -137,11 +153,26 @@ pub fn modules(draw: &mut Draw, length: usize, count: usize, widest: usize) -> V
     (0..count).map(one).collect()
 }
 
-/// Any net but 0, often one whose bytes are 0 or 255, or one of few.
-fn net(draw: &mut Draw) -> u16 {
-    let any = draw.between(1, 65_535) as u16;
-    let few = draw.between(1, 12) as u16;
-    draw.of(&[1, 255, 256, 512, 65_280, 65_535, any, any, few, few])
+/// Any of these nets, often the first or the last of its kind, one whose low byte is 0 or 255, or one of few.
+fn net(draw: &mut Draw, nets: Nets) -> u16 {
+    let (first, last) = match nets {
+        Nets::Plain => (1, 60_000),
+        Nets::Left => (60_001, 62_000),
+        Nets::Right => (62_001, 64_000),
+        Nets::Both => (64_001, 65_535),
+        Nets::Leaving => {
+            let one = draw.of(&[Nets::Left, Nets::Right, Nets::Both]);
+            return net(draw, one);
+        }
+        Nets::Mixed => {
+            let one = draw.of(&[Nets::Plain, Nets::Leaving]);
+            return net(draw, one);
+        }
+    };
+    let any = draw.between(first, last);
+    let few = first + draw.between(0, 11);
+    let low_byte = [(any & !255).max(first), (any | 255).min(last)];
+    draw.of(&[first, last, low_byte[0], low_byte[1], any, any, few, few]) as u16
 }
 
 /// So many different columns in rising order.

@@ -5,7 +5,7 @@ use crate::reference::{amount, read, Channel, Refused, Terminal};
 use cazdrob::{Assignment, Searcher};
 
 /// A side: its nets, with these sets and, but for the first, this range.
-fn side(nets: &[u16], sets: &[u64], least: u8, greatest: u8) -> Vec<Terminal> {
+pub fn side(nets: &[u16], sets: &[u64], least: u8, greatest: u8) -> Vec<Terminal> {
     let terminal = |place: usize| Terminal {
         net: nets[place],
         least: if place == 0 { 0 } else { least },
@@ -16,7 +16,7 @@ fn side(nets: &[u16], sets: &[u64], least: u8, greatest: u8) -> Vec<Terminal> {
 }
 
 /// A channel with full sets and ranges 1 to 255.
-fn free(length: usize, top: &[u16], bottom: &[u16]) -> Channel {
+pub fn free(length: usize, top: &[u16], bottom: &[u16]) -> Channel {
     let full = |nets: &[u16]| side(nets, &vec![all_columns(length); nets.len()], 1, 255);
     Channel { length, top: full(top), bottom: full(bottom) }
 }
@@ -25,7 +25,7 @@ fn sheet_a() -> Channel {
     free(3, &[1, 2], &[2, 1])
 }
 
-fn found(channel: &Channel, density: u32, columns: &[u8]) {
+pub fn found(channel: &Channel, density: u32, columns: &[u8]) {
     assert_eq!(channel.best_of_all(), Some((density, columns.to_vec())));
     assert_eq!(channel.best(), Some((density, columns.to_vec())));
     for bottom_first in [false, true] {
@@ -72,7 +72,7 @@ fn searches() {
     found(&free(2, &[4, 4], &[4]), 1, &[1, 2, 1]);
 }
 
-fn measured(channel: &Channel, list: &[u8], wanted: Result<u32, Refused>) {
+pub fn measured(channel: &Channel, list: &[u8], wanted: Result<u32, Refused>) {
     assert_eq!(channel.measure(list), wanted);
     for bottom_first in [false, true] {
         assert_eq!(cazdrob::measure(&sheet_of(channel, bottom_first), list).map_err(refused), wanted);

@@ -6,6 +6,7 @@ mod damaged;
 mod distances;
 mod draw;
 mod known;
+mod leaving;
 mod lent;
 mod lists;
 mod modules;

@@ -1,5 +1,6 @@
 //! Two sheets compared: a loosened sheet's least density is no higher, a lengthened one's is the same.
 use crate::draw::{all_columns, channel, channel_up_to, sheet_of, Draw};
+use crate::leaving::count_kinds;
 use crate::reference::Channel;
 use cazdrob::{Assignment, Refusal, Searcher};
 
@@ -37,7 +38,7 @@ fn answer(draw: &mut Draw, searcher: &mut Searcher, channel: &Channel) -> Result
 fn loosened_sheets() {
     let mut draw = Draw::new(41);
     let mut searcher = Searcher::new();
-    let (mut lower, mut equal, mut first_without) = (0, 0, 0);
+    let (mut lower, mut equal, mut first_without, mut lower_by_kind) = (0, 0, 0, [0; 4]);
     for round in 0..40_000 {
         let most = if round % 20 == 0 { 40 } else { 12 };
         let (first, _) = channel_up_to(&mut draw, most, 9, 9);
@@ -48,6 +49,7 @@ fn loosened_sheets() {
                 assert!(two.density <= one.density, "{first:?} and {second:?}");
                 if two.density < one.density {
                     lower += 1;
+                    count_kinds(&mut lower_by_kind, &first);
                 } else {
                     equal += 1;
                 }
@@ -57,14 +59,15 @@ fn loosened_sheets() {
         }
     }
     println!("loosened: {lower} lower, {equal} equal, {first_without} where the first has no assignment");
-    assert!(lower > 1_000 && equal > 5_000 && first_without > 500);
+    println!("  lower with nets of each kind: {lower_by_kind:?}");
+    assert!(lower > 1_000 && equal > 5_000 && first_without > 500 && lower_by_kind.iter().all(|pairs| *pairs > 200));
 }
 
 #[test]
 fn lengthened_sheets() {
     let mut draw = Draw::new(42);
     let mut searcher = Searcher::new();
-    let mut by_density = [0; 8];
+    let (mut by_density, mut by_kind) = ([0; 11], [0; 4]);
     for round in 0..20_000 {
         let most = if round % 50 == 0 { 64 } else { 16 };
         let (p, q) = (draw.between(0, 5), draw.between(0, 5));
@@ -86,7 +89,9 @@ fn lengthened_sheets() {
         let two = answer(&mut draw, &mut searcher, &second).expect("room for every terminal");
         assert_eq!(one.density, two.density, "{first:?} and {second:?}");
         by_density[one.density as usize] += 1;
+        count_kinds(&mut by_kind, &first);
     }
-    println!("lengthened: pairs by density {by_density:?}");
-    assert!(by_density[..4].iter().all(|pairs| *pairs > 50));
+    println!("lengthened: pairs by density {by_density:?}, with nets of each kind {by_kind:?}");
+    // plain nets alone, with two pins each of ten at the most, have a density of up to 5
+    assert!(by_density[..7].iter().all(|pairs| *pairs > 50) && by_kind.iter().all(|pairs| *pairs > 4_000));
 }

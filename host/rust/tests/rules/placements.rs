@@ -16,8 +16,9 @@ fn few(draw: &mut Draw) -> (usize, [Vec<Module>; 2]) {
         let longer = usize::from(sides[1].len() > sides[0].len());
         sides[longer].pop();
     }
+    let nets = draw.of(&[[1, 2, 3], [1, 2, 3], [1, 60_001, 62_001]]);
     for pin in sides.iter_mut().flatten().flat_map(|module| &mut module.pins) {
-        pin.net = draw.between(1, 3) as u16;
+        pin.net = draw.of(&nets);
     }
     (length, sides)
 }

@@ -112,6 +112,22 @@ pub fn amount(before: u8, column: u8, least: u8, greatest: u8) -> i32 {
     }
 }
 
+/// Whether a net leaves the channel at the left and at the right, by its number.
+pub fn leaves(net: u16) -> (bool, bool) {
+    match net {
+        ..=60_000 => (false, false),
+        60_001..=62_000 => (true, false),
+        62_001..=64_000 => (false, true),
+        64_001.. => (true, true),
+    }
+}
+
+/// Whether a net crosses a column, from whether it has a pin in it or left of it, one in it or right of it, and one that is not in it.
+fn crosses(net: u16, up_to: bool, from: bool, elsewhere: bool) -> bool {
+    let (left, right) = leaves(net);
+    (left || up_to) && (right || from) && (left || right || elsewhere)
+}
+
 impl Channel {
     pub fn terminals(&self) -> usize {
         self.top.len() + self.bottom.len()
@@ -122,8 +138,8 @@ impl Channel {
         (self.top.len() + 1) * (self.bottom.len() + 1) * (self.length + 1) * (self.length + 1)
     }
 
-    /// The distinct nets.
-    fn nets(&self) -> Vec<u16> {
+    /// The distinct nets, in rising order.
+    pub fn nets(&self) -> Vec<u16> {
         let mut nets: Vec<u16> = self.top.iter().chain(&self.bottom).map(|t| t.net).collect();
         nets.sort_unstable();
         nets.dedup();
@@ -136,12 +152,15 @@ impl Channel {
             let terminals = self.top.iter().chain(&self.bottom);
             terminals.zip(list).filter(|(t, _)| t.net == net).map(|(_, column)| usize::from(*column)).collect()
         };
-        let pins: Vec<Vec<usize>> = self.nets().into_iter().map(pins_of).collect();
-        let crosses = |pins: &&Vec<usize>, column: usize| {
-            let (leftmost, rightmost) = (*pins.iter().min().unwrap(), *pins.iter().max().unwrap());
-            leftmost <= column && column <= rightmost && pins.iter().any(|pin| *pin != column)
+        let nets: Vec<(u16, Vec<usize>)> = self.nets().into_iter().map(|net| (net, pins_of(net))).collect();
+        let count = |column: usize| {
+            let crosses_it = |(net, pins): &&(u16, Vec<usize>)| {
+                let [up_to, from] = [pins.iter().any(|pin| *pin <= column), pins.iter().any(|pin| *pin >= column)];
+                crosses(*net, up_to, from, pins.iter().any(|pin| *pin != column))
+            };
+            nets.iter().filter(crosses_it).count() as u32
         };
-        (1..=self.length).map(|column| pins.iter().filter(|pins| crosses(pins, column)).count() as u32).max().unwrap()
+        (1..=self.length).map(count).max().unwrap()
     }
 
     /// The amounts of the top pairs and of the bottom pairs, by place; the list has a column for each terminal.
@@ -219,7 +238,7 @@ impl Channel {
     }
 }
 
-/// Above every density.
+/// Above every density: a sheet has at most 128 nets.
 const NONE: u8 = 255;
 
 /// d(i, j, u, v): the least density of columns 1 to max(u, v) where the first i top and j bottom terminals are placed, the last of them
@@ -364,7 +383,7 @@ fn predecessors(terminals: &[Terminal], i: usize, column: usize) -> std::ops::Ra
 }
 
 /// For each i, j and letter the number of nets that cross a column with this letter where i top and j bottom pins stand in it or left of
-/// it.
+/// it. Letter 0 needs none: a net that crosses an empty column also crosses the next one with a pin, on whichever side of it that is.
 fn loads_of(channel: &Channel) -> Vec<u8> {
     let (p, q) = (channel.top.len(), channel.bottom.len());
     let mut loads = vec![0; (p + 1) * (q + 1) * 4];
@@ -388,7 +407,7 @@ fn loads_of(channel: &Channel) -> Vec<u8> {
                     let left = top[i - a] + bottom[j - b];
                     let here = top[i] + bottom[j] - left;
                     let right = top[p] + bottom[q] - left - here;
-                    if left + here > 0 && here + right > 0 && left + right > 0 {
+                    if crosses(net, left + here > 0, here + right > 0, left + right > 0) {
                         loads[(i * (q + 1) + j) * 4 + letter] += 1;
                     }
                 }

@@ -1,11 +1,12 @@
 //! Sound sheets of every size, and the reference's two searches against each other.
 use crate::draw::{all_columns, channel, channel_up_to, sheet_of, Draw};
+use crate::leaving::count_kinds;
 use crate::lent::{Held, Seen};
 use crate::reference::{Channel, Terminal};
 use cazdrob::Searcher;
 
 /// Every call on the channel's sheet, on buffers of just the lengths that are needed and on longer ones.
-fn every_call(draw: &mut Draw, channel: &Channel, list: Option<Vec<u8>>, searcher: Searcher, seen: &mut Seen) -> Searcher {
+pub fn every_call(draw: &mut Draw, channel: &Channel, list: Option<Vec<u8>>, searcher: Searcher, seen: &mut Seen) -> Searcher {
     let sheet = sheet_of(channel, draw.once_in(2));
     let mut held = Held::with(sheet, searcher);
     assert_eq!(held.read.as_ref(), Ok(channel));
@@ -41,7 +42,7 @@ fn many(test: &str, seed: u64, sheets: usize, length: usize, p: usize, q: usize)
 #[test]
 fn the_dynamic_programme_agrees_with_every_assignment_tried() {
     let mut draw = Draw::new(1);
-    let (mut with, mut without, mut ties) = (0, 0, 0);
+    let (mut with, mut without, mut ties, mut by_kind) = (0, 0, 0, [0; 4]);
     for _ in 0..60_000 {
         let (length, most) = draw.of(&[(4, 4), (5, 4), (6, 4), (7, 3), (9, 2)]);
         let (channel, list) = channel_up_to(&mut draw, length, most, most);
@@ -51,14 +52,16 @@ fn the_dynamic_programme_agrees_with_every_assignment_tried() {
             None => without += 1,
             Some((least, best)) => {
                 with += 1;
+                count_kinds(&mut by_kind, &channel);
                 // a drawn assignment that only the word tells from the best one
                 let tied = |list: &Vec<u8>| *list != best && channel.measure(list) == Ok(least);
                 ties += u32::from(list.as_ref().is_some_and(tied));
             }
         }
     }
-    println!("{with} with an assignment, {without} without; {ties} ties");
+    println!("{with} with an assignment, of them with nets of each kind {by_kind:?}; {without} without; {ties} ties");
     assert!(with > 40_000 && without > 5_000 && ties > 10_000);
+    assert!(by_kind.iter().all(|sheets| *sheets > 9_000));
 }
 
 #[test]
@@ -94,7 +97,8 @@ fn the_largest_sheets() {
     assert!(seen.search[0] >= 8);
 }
 
-/// The nets of one side in the reverse order at the other, on just as many columns and on twice as many: up to the greatest density, 64.
+/// The nets of one side in the reverse order at the other, on just as many columns and on twice as many: up to the greatest density
+/// of plain nets, 64.
 #[test]
 fn reversed_nets() {
     let mut draw = Draw::new(6);
