@@ -85,8 +85,10 @@ size_t cazdrob_cells(const uint8_t *sheet, size_t sheet_len);
 int32_t cazdrob_distance(uint8_t before, uint8_t column, uint8_t least, uint8_t greatest);
 
 /*
- * The density of a column list: p+q columns, those of the top terminals in order, then those of the bottom terminals. The sheet and the
- * list may overlap, as neither is written. What density and amount held before plays no part.
+ * The density of a column list: p+q columns, those of the top terminals in order, then those of the bottom terminals. It is the greatest
+ * number of nets that cross a column. Nets above 60,000 leave the channel by an end, or by both, and count in every column up to there
+ * (docs/FORMAT.md, "Nets that leave"); the least density of a search counts them likewise. The sheet and the list may overlap, as neither
+ * is written. What density and amount held before plays no part.
  *
  *   returned          *density     *amount
  *   0                 the density  0

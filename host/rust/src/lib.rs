@@ -124,7 +124,7 @@ pub fn search(sheet: &[u8], columns: &mut [u8], work: &mut [u16]) -> Result<u32,
 /// An assignment and its density.
 #[derive(Debug, Clone, PartialEq, Eq)]
 pub struct Assignment {
-    /// The greatest number of nets that cross a column.
+    /// The greatest number of nets that cross a column. Nets above 60,000 leave the channel by an end and count in every column up to it.
     pub density: u32,
     /// The columns of the top terminals in order, then those of the bottom terminals.
     pub columns: Vec<u8>,
@@ -171,7 +171,7 @@ pub const SHEET_MAX: usize = 1_548;
 pub struct Pin {
     /// The column of the module that it stands in, from 1, the module's first, to its width.
     pub offset: u8,
-    /// Its net, 1 to 65,535.
+    /// Its net, 1 to 65,535. Those above 60,000 leave the channel by an end.
     pub net: u16,
 }
 
