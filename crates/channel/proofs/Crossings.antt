@@ -3,7 +3,7 @@
 -- Assumes nothing.
 use Prim.Native.Nat.{ℕ, zero, suc}
 use mathlib.Core.Path.{_≡_, refl}
-use mathlib.Core.List.{List, [], _∷_}
+use mathlib.Core.List.{List, [], _∷_, _++_}
 use mathlib.Core.Bool.{Bool, true, false, cond, _&&_, _||_, and-false, and-true, or-comm, or-self, or-true, or-false}
 use native.Mathlib.Omega.{arith}
 use lib.ListN.{length}
@@ -12,8 +12,10 @@ use borrow.Author.Tests.{le-leb, lt-leb, ltb-true, ltb-false, eqb-true, eqb-fals
 use Rattle.kind.specs.declared.Kind.{Kind}
 use Rattle.kind.specs.declared.Kind.the-variants.{Plain, Left, Right, BothEnds}
 use Rattle.kind.specs.Kinds.{kindOf}
-use Rattle.channel.specs.Sheet.{Sheet}
-use Rattle.channel.specs.Density.{any, Pin, somePin, crossing, crossingOf, crosses, netsOf, columnDensity, maximumTo, density}
+use Rattle.channel.specs.Sheet.{Terminal, Sheet}
+use Rattle.channel.specs.Density.{any, Pin, pins, somePin, crossing, crossingOf, crosses, distinct, netsOf}
+use Rattle.channel.specs.Density.{columnDensity, maximumTo, density}
+use Rattle.channel.specs.Cut.{nets, has}
 use Rattle.channel.specs.Spans.{netColumns}
 
 -- a net has a pin that passes a test exactly if one of its columns passes it
@@ -131,6 +133,35 @@ leaving-here ps n c leaves here = rw here (go (kindOf n) leaves _ _)
     go Left h l r = refl
     go Right h l r = rw or-true
     go BothEnds h l r = refl
+
+-- a net that counts has a pin: the nets of a sheet stand in every list of p+q columns
+pub net-stands : (s : Sheet) (cs : List ℕ) (n : ℕ) → length cs ≡ length (s .top ++ s .bottom) → has n (netsOf s) ≡ true
+    → somePin (λ (k : ℕ). true) n (pins (s .top ++ s .bottom) cs) ≡ true
+unfolding netsOf
+net-stands s cs n size h = pin (s .top ++ s .bottom) cs size (among (nets (s .top ++ s .bottom)) h)
+  where
+    among : (ns : List ℕ) → has n (distinct ns) ≡ true → has n ns ≡ true
+    among [] e = e
+    among (m ∷ ns) e = go (any (eqb m) ns) (eqb m n) refl e (among ns)
+      where
+        go : (again x : Bool) → eqb m n ≡ x → has n (cond again (distinct ns) (m ∷ distinct ns)) ≡ true
+            → (has n (distinct ns) ≡ true → has n ns ≡ true)
+            → (x || has n ns) ≡ true
+        go again true d e rest = refl
+        go true false d e rest = rest e
+        go false false d e rest = rest (rw d at e)
+
+    pin : (ts : List Terminal) (ks : List ℕ) → length ks ≡ length ts → has n (nets ts) ≡ true
+        → somePin (λ (k : ℕ). true) n (pins ts ks) ≡ true
+    pin [] ks e h = h
+    pin (t ∷ ts) [] e h = absurd (omega arith)
+    pin (t ∷ ts) (k ∷ ks) e h = go (eqb (t .net) n) h (pin ts ks (omega arith))
+      where
+        go : (x : Bool) → (x || has n (nets ts)) ≡ true
+            → (has n (nets ts) ≡ true → somePin (λ (k : ℕ). true) n (pins ts ks) ≡ true)
+            → (x && true || somePin (λ (k : ℕ). true) n (pins ts ks)) ≡ true
+        go true d rest = refl
+        go false d rest = rest d
 
 -- where every column has none, the maximum is 0
 maximum-none : (l : ℕ) (f : ℕ → ℕ) → ((c : ℕ) → f c ≡ 0) → maximumTo l f ≡ 0

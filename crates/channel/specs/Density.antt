@@ -46,7 +46,7 @@ abbrev pub distinct : List ℕ → List ℕ
 distinct [] = []
 distinct (n ∷ ns) = cond (any (eqb n) ns) (distinct ns) (n ∷ distinct ns)
 
--- a sheet's nets, each once: they alone are counted, so each net that counts has a pin
+-- a sheet's nets, each once: these alone are counted, and each has a pin
 unfoldable pub netsOf : Sheet → List ℕ
 netsOf s = distinct (map (λ (t : Terminal). t .net) (s .top ++ s .bottom))
 

@@ -26,7 +26,7 @@ standOf ns i = record { count = i; net = netAt ns i }
 abbrev pub cutOf : List ℕ → List ℕ → ℕ → ℕ → Cut
 cutOf tops bottoms i j = record { top = standOf tops i; bottom = standOf bottoms j }
 
--- of one side, with a pin in the column if h: a net whose first place is `first` has a pin left of the column
+-- of one side, with a pin in the column if h: a net whose first place is `first` reaches left of the column
 abbrev pub leftTest : Bool → ℕ → ℕ → Bool
 leftTest h first i = cond h (ltb first i) (leb first i)
 

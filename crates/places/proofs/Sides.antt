@@ -1,4 +1,4 @@
--- The first and last place of a net on one side say which stretches of the side it stands in.
+-- The first and last place of a net on one side say which stretches of the side it stands in, or reaches by leaving.
 -- Assumes nothing.
 use Prim.Native.Nat.{ℕ, zero, suc, _+_, _-_, _≤_, _<_, min, max}
 use mathlib.Core.Path.{_≡_, refl, sym, ap}
