@@ -23,8 +23,8 @@ leavesRight Left = false
 leavesRight Right = true
 leavesRight BothEnds = true
 
--- where a scan of a net's pins for its leftmost starts, and one for its rightmost: an end that leaves the channel is past every column
--- from 1 to 254 already, and any other is behind them all
+-- where a scan of a net's pins for its leftmost starts, and one for its rightmost: at an end by which the net leaves, past every column
+-- from 1 to 254 already; else on the other side of them all, so that the first pin moves it
 abbrev pub leftStart : Kind → ℕ
 leftStart k = cond (leavesLeft k) 0 255
 
