@@ -83,7 +83,7 @@ next-right : (h : Bool) (i : ℕ) (ns : List ℕ) → hereOf h (cond h (suc i) i
 next-right true i ns = rw (drop-drop 1 i ns, add-one) at (take-append-drop 1 (drop i ns))
 next-right false i ns = refl
 
--- left of the next column stands what stands left of this one or in it
+-- left of it and in it stands what is at or left of it
 next-here : (h : Bool) (i : ℕ) (ns : List ℕ) → leftOf h (cond h (suc i) i) ns ++ hereOf h (cond h (suc i) i) ns ≡ take (cond h (suc i) i) ns
 next-here true i ns = take-more i ns
   where
@@ -93,76 +93,69 @@ next-here true i ns = take-more i ns
     take-more (suc i) (n ∷ ns) = ap (λ (ms : List ℕ). n ∷ ms) (take-more i ns)
 next-here false i ns = append-nil (take i ns)
 
--- an empty column's load is at most that of the next column to its right: what crosses it reaches left of it and right of it
-pub empty-load-right : (s : Sheet) (a : Letter) (i j : ℕ)
-    → load s empty i j ≤ load s a (cond (hasTop a) (suc i) i) (cond (hasBottom a) (suc j) j)
-unfolding load
-empty-load-right s a i j = weight-mono _ _ more (netsOf s)
-  where
-    x : ℕ
-    x = cond (hasTop a) (suc i) i
+-- the column of letter a, with i top and j bottom pins left of it, and so x and y at or left of it
+module _ (s : Sheet) (a : Letter) (i j : ℕ) where
+  abbrev x : ℕ
+  x = cond (hasTop a) (suc i) i
 
-    y : ℕ
-    y = cond (hasBottom a) (suc j) j
+  abbrev y : ℕ
+  y = cond (hasBottom a) (suc j) j
 
-    left : leftNets s a x y ≡ leftNets s empty i j
-    left = rw (next-left (hasTop a) i (nets (s .top)), next-left (hasBottom a) j (nets (s .bottom)))
+  -- an empty column just left of it has a load no greater: what crosses that one reaches left of it, and stands in this one or reaches
+  -- right of it
+  pub empty-left-load : load s empty i j ≤ load s a x y
+  unfolding load
+  empty-left-load = weight-mono _ _ more (netsOf s)
+    where
+      left : leftNets s a x y ≡ leftNets s empty i j
+      left = rw (next-left (hasTop a) i (nets (s .top)), next-left (hasBottom a) j (nets (s .bottom)))
 
-    right : (n : ℕ) → has n (rightNets s i j) ≡ (has n (hereNets s a x y) || has n (rightNets s x y))
-    right n =
-        rw (← next-right (hasTop a) i (nets (s .top)), ← next-right (hasBottom a) j (nets (s .bottom)))
-        (rw any-swap)
+      right : (n : ℕ) → has n (rightNets s i j) ≡ (has n (hereNets s a x y) || has n (rightNets s x y))
+      right n =
+          rw (← next-right (hasTop a) i (nets (s .top)), ← next-right (hasBottom a) j (nets (s .bottom)))
+          (rw any-swap)
 
-    cross : (k : Kind) (l h r : Bool) → crossingOf k l false (h || r) ≡ true → crossingOf k l h r ≡ true
-    cross k l h r = go (leavesLeft k || l) (leavesRight k)
-      where
-        go : (x y : Bool) → crossing x false (y || (h || r)) ≡ true → crossing x h (y || r) ≡ true
-        go true true e = rw or-true
-        go true false e = e
-        go false y e = absurd (false≢true e)
+      cross : (k : Kind) (l h r : Bool) → crossingOf k l false (h || r) ≡ true → crossingOf k l h r ≡ true
+      cross k l h r = go (leavesLeft k || l) (leavesRight k)
+        where
+          go : (u v : Bool) → crossing u false (v || (h || r)) ≡ true → crossing u h (v || r) ≡ true
+          go true true e = rw or-true
+          go true false e = e
+          go false v e = absurd (false≢true e)
 
-    more : (n : ℕ)
-        → crossesCut n (leftNets s empty i j) (hereNets s empty i j) (rightNets s i j) ≡ true
-        → crossesCut n (leftNets s a x y) (hereNets s a x y) (rightNets s x y) ≡ true
-    more n e =
-        rw left
-        (cross (kindOf n) (has n (leftNets s empty i j)) (has n (hereNets s a x y)) (has n (rightNets s x y)) (rw (right n) at e))
+      more : (n : ℕ)
+          → crossesCut n (leftNets s empty i j) (hereNets s empty i j) (rightNets s i j) ≡ true
+          → crossesCut n (leftNets s a x y) (hereNets s a x y) (rightNets s x y) ≡ true
+      more n e =
+          rw left
+          (cross (kindOf n) (has n (leftNets s empty i j)) (has n (hereNets s a x y)) (has n (rightNets s x y)) (rw (right n) at e))
 
--- and at most that of the next column to its left
-pub empty-load-left : (s : Sheet) (a : Letter) (i j : ℕ)
-    → let x : ℕ = cond (hasTop a) (suc i) i in
-    let y : ℕ = cond (hasBottom a) (suc j) j in
-    load s empty x y ≤ load s a x y
-unfolding load
-empty-load-left s a i j = weight-mono _ _ more (netsOf s)
-  where
-    x : ℕ
-    x = cond (hasTop a) (suc i) i
+  -- and so has one just right of it: what crosses that one stands in this one or reaches left of it, and reaches right of it
+  pub empty-right-load : load s empty x y ≤ load s a x y
+  unfolding load
+  empty-right-load = weight-mono _ _ more (netsOf s)
+    where
+      left : (n : ℕ) → has n (leftNets s empty x y) ≡ (has n (leftNets s a x y) || has n (hereNets s a x y))
+      left n =
+          rw (← next-here (hasTop a) i (nets (s .top)), ← next-here (hasBottom a) j (nets (s .bottom)))
+          (rw any-swap)
 
-    y : ℕ
-    y = cond (hasBottom a) (suc j) j
+      cross : (k : Kind) (l h r : Bool) → crossingOf k (l || h) false r ≡ true → crossingOf k l h r ≡ true
+      cross k l h r = go (leavesLeft k) l h (leavesRight k || r)
+        where
+          go : (u l h v : Bool) → crossing (u || (l || h)) false v ≡ true → crossing (u || l) h v ≡ true
+          go true l true v e = refl
+          go true l false v e = e
+          go false true true v e = refl
+          go false true false v e = e
+          go false false true true e = refl
+          go false false true false e = e
+          go false false false v e = e
 
-    left : (n : ℕ) → has n (leftNets s empty x y) ≡ (has n (leftNets s a x y) || has n (hereNets s a x y))
-    left n =
-        rw (← next-here (hasTop a) i (nets (s .top)), ← next-here (hasBottom a) j (nets (s .bottom)))
-        (rw any-swap)
-
-    cross : (k : Kind) (l h r : Bool) → crossingOf k (l || h) false r ≡ true → crossingOf k l h r ≡ true
-    cross k l h r = go (leavesLeft k) l h (leavesRight k || r)
-      where
-        go : (x l h y : Bool) → crossing (x || (l || h)) false y ≡ true → crossing (x || l) h y ≡ true
-        go true l true y e = refl
-        go true l false y e = e
-        go false true true y e = refl
-        go false true false y e = e
-        go false false true true e = refl
-        go false false true false e = e
-        go false false false y e = e
-
-    more : (n : ℕ)
-        → crossesCut n (leftNets s empty x y) (hereNets s empty x y) (rightNets s x y) ≡ true
-        → crossesCut n (leftNets s a x y) (hereNets s a x y) (rightNets s x y) ≡ true
-    more n e = cross (kindOf n) (has n (leftNets s a x y)) (has n (hereNets s a x y)) (has n (rightNets s x y)) (rw (left n) at e)
+      more : (n : ℕ)
+          → crossesCut n (leftNets s empty x y) (hereNets s empty x y) (rightNets s x y) ≡ true
+          → crossesCut n (leftNets s a x y) (hereNets s a x y) (rightNets s x y) ≡ true
+      more n e = cross (kindOf n) (has n (leftNets s a x y)) (has n (hereNets s a x y)) (has n (rightNets s x y)) (rw (left n) at e)
 
 -- so a column right of all pins has a load no greater than that of an occupied one, and with no pins at all it is 0
 last-load : (s : Sheet) (w : List Letter) → count hasTop w ≡ length (s .top) → count hasBottom w ≡ length (s .bottom)
@@ -175,9 +168,9 @@ last-load s [] h k = none _ (s .top) (s .bottom) h k
     none f [] (u ∷ us) h k = absurd (omega arith)
     none f (t ∷ ts) us h k = absurd (omega arith)
 last-load s (empty ∷ w) h k = le-trans (last-load s w h k) (le-max-right 0 (wordLoad s w))
-last-load s (top ∷ w) h k = le-trans (empty-load-left s top (count hasTop w) (count hasBottom w)) (le-max-left _ (wordLoad s w))
-last-load s (bottom ∷ w) h k = le-trans (empty-load-left s bottom (count hasTop w) (count hasBottom w)) (le-max-left _ (wordLoad s w))
-last-load s (both ∷ w) h k = le-trans (empty-load-left s both (count hasTop w) (count hasBottom w)) (le-max-left _ (wordLoad s w))
+last-load s (top ∷ w) h k = le-trans (empty-right-load s top (count hasTop w) (count hasBottom w)) (le-max-left _ (wordLoad s w))
+last-load s (bottom ∷ w) h k = le-trans (empty-right-load s bottom (count hasTop w) (count hasBottom w)) (le-max-left _ (wordLoad s w))
+last-load s (both ∷ w) h k = le-trans (empty-right-load s both (count hasTop w) (count hasBottom w)) (le-max-left _ (wordLoad s w))
 
 -- the greatest load of a word's columns, the empty ones too
 columnsLoad : Sheet → List Letter → ℕ
@@ -203,7 +196,7 @@ unfolding columnsLoad
 only-occupied s [] m h = refl
 only-occupied s (a ∷ w) m h =
     let new : load s empty (count hasTop w) (count hasBottom w) ≤ max m (firstLoad s a w) =
-    le-trans (empty-load-right s a (count hasTop w) (count hasBottom w)) (le-max-right m (firstLoad s a w)) in
+    le-trans (empty-left-load s a (count hasTop w) (count hasBottom w)) (le-max-right m (firstLoad s a w)) in
     simp (← max-assoc) (rw (only-occupied s w (max m (firstLoad s a w)) new, first-kept s a w m h))
 
 -- the columns of the letters u of a word v ++ u

@@ -11,7 +11,7 @@ use lib.Dec.{leb, ltb, eqb}
 use borrow.Author.Tests.{leb-true, leb-false, le-leb, lt-leb, ltb-true, ltb-false, lt-ltb, le-ltb, eqb-true, eqb-false, eq-eqb, ne-eqb}
 use Rattle.kind.specs.declared.Kind.{Kind}
 use Rattle.kind.specs.Kinds.{kindOf, leavesLeft, leavesRight, leftStart, rightStart}
-use Rattle.kind.proofs.Starts.{left-start, left-start-before, right-start, right-start-from}
+use Rattle.kind.proofs.Starts.{left-start, left-start-before, left-start-apart, right-start, right-start-from, right-start-apart}
 use Rattle.channel.specs.Sheet.{Sheet}
 use Rattle.channel.specs.Density.{any, Pin, pins, crossing, crosses, distinct, netsOf, weight}
 use Rattle.channel.specs.Density.{weightOf, columnDensity, maximumTo, density}
@@ -97,14 +97,7 @@ crossed-span k ks c low high =
         → let a : ℕ = pickFrom min (leftStart k) ms in
         let b : ℕ = pickFrom max (rightStart k) ms in
         (a ≡ c → c ≤ b) × (b ≡ c → a ≤ c)
-    order [] = (
-      λ e. absurd (apart (leavesLeft k) 0 255 (λ q. omega arith) (λ q. omega arith) e),
-      λ e. absurd (apart (leavesRight k) 255 0 (λ q. omega arith) (λ q. omega arith) e),
-    )
-      where
-        apart : (t : Bool) (x y : ℕ) → (x ≡ c → ⊥) → (y ≡ c → ⊥) → cond t x y ≡ c → ⊥
-        apart true x y f g = f
-        apart false x y f g = g
+    order [] = (λ e. absurd (left-start-apart k c high low e), λ e. absurd (right-start-apart k c high low e))
     order (m ∷ ms) =
         let turn = ends-order (min (leftStart k) m) (max (rightStart k) m) ms (omega arith) in
         (λ e. omega arith, λ e. omega arith)

@@ -33,7 +33,7 @@ abbrev pub crossing : Bool → Bool → Bool → Bool
 crossing left here right = (left || here) && ((here || right) && (left || right))
 
 -- The same of a net of kind k that has pins left of the column, in it and right of it, or not. "A leaving net reaches column 1, column L or
--- both, and counts even in a column holding all its pins": past the end by which it leaves, it reaches beyond every column
+-- both, and counts even in a column holding all its pins": at an end by which it leaves, it reaches past every column
 abbrev pub crossingOf : Kind → Bool → Bool → Bool → Bool
 crossingOf k left here right = crossing (leavesLeft k || left) here (leavesRight k || right)
 
