@@ -15,8 +15,8 @@ use borrow.Author.Tests.{leb-true, leb-false, le-leb, ltb-true, ltb-false, lt-lt
 use Rattle.channel.specs.Density.{any, Pin, maximumTo}
 use Rattle.channel.proofs.Spans.{spans-from}
 use Rattle.channel.specs.Spans.{sumLast, leftmost, rightmost}
-use Rattle.spans.specs.declared.Span.{Span}
-use Rattle.spans.specs.Spans.{pinsOf, spanOf}
+use Rattle.ends.specs.declared.Ends.{Ends}
+use Rattle.ends.specs.Ends.{pinsOf, endsOf}
 use Rattle.nets.proofs.Nets.{drop-next}
 use Rattle.density.specs.Counted.{netSpans, countedAt, Added, Small, within}
 
@@ -93,20 +93,20 @@ added-all a b before now added c = added c ∙ ap (λ (t : Bool). getD before c 
     last false e = le-ltb c (b + 1) (omega (arith, leb-false c b e))
 
 -- one net is counted where it crosses: from its left end to its right end, if they differ
-module _ (ps : List Pin) (n : ℕ) (span : Span) (answer : span ≡ spanOf n ps) (before : List ℕ) where
-  by-ends : (c : ℕ) → netSpans ps c n ≡ (ltb (span .left) (span .right) && within (span .left) (span .right) c)
+module _ (ps : List Pin) (n : ℕ) (ends : Ends) (answer : ends ≡ endsOf n ps) (before : List ℕ) where
+  by-ends : (c : ℕ) → netSpans ps c n ≡ (ltb (ends .left) (ends .right) && within (ends .left) (ends .right) c)
   by-ends c = spans-from (leftmost n ps) (rightmost n ps) c ∙ rw answer
 
   pub counted :
-      (after : List ℕ) → span .left < span .right → Added 1 (within (span .left) (span .right)) before after
+      (after : List ℕ) → ends .left < ends .right → Added 1 (within (ends .left) (ends .right)) before after
       → Added 1 (λ (c : ℕ). netSpans ps c n) before after
   counted after h added c =
-      let inside : netSpans ps c n ≡ within (span .left) (span .right) c = by-ends c ∙ rw (lt-ltb (span .left) (span .right) h) in
+      let inside : netSpans ps c n ≡ within (ends .left) (ends .right) c = by-ends c ∙ rw (lt-ltb (ends .left) (ends .right) h) in
       added c ∙ ap (λ (t : Bool). getD before c 0 + cond t 1 0) (sym inside)
 
-  pub uncounted : span .right ≤ span .left → Added 1 (λ (c : ℕ). netSpans ps c n) before before
+  pub uncounted : ends .right ≤ ends .left → Added 1 (λ (c : ℕ). netSpans ps c n) before before
   uncounted h c =
-      let none : netSpans ps c n ≡ false = by-ends c ∙ rw (le-ltb (span .left) (span .right) h) in
+      let none : netSpans ps c n ≡ false = by-ends c ∙ rw (le-ltb (ends .left) (ends .right) h) in
       sym (ap (λ (t : Bool). getD before c 0 + cond t 1 0) none ∙ add-zero (getD before c 0))
 
 -- the counts of the nets passed, with those that the i-th and later ones still add, are the crossings

@@ -9,7 +9,7 @@ use lib.Dec.{leb}
 use Rattle.channel.specs.Density.{Pin}
 use Rattle.channel.specs.Spans.{leftmost, rightmost, spans, sumLast}
 use Rattle.format.specs.Parts.{terminalsIn}
-use Rattle.spans.specs.Spans.{pinsOf}
+use Rattle.ends.specs.Ends.{pinsOf}
 
 -- a list that is p+q long beside the two sections of a sound sheet of length l
 pub record AsksDensity (top bottom columns : List ℕ) (p l : ℕ) : Type 0 where

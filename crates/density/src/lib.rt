@@ -1,13 +1,13 @@
 // The density of a list: each net is counted once in the columns that it crosses.
+use ends::ends_of;
 use nets::all_nets;
 use nets::occurs;
-use spans::span_of;
 ghost use mathlib.Core.Path.{_≡_};
 ghost use Prim.Native.Nat.{ℕ, _≤_, _<_};
 ghost use lib.ListN.{length, getD, replicate};
 ghost use Rattle.channel.specs.Density.{weight, maximumTo, density};
 ghost use Rattle.sheet.specs.Parts.{sheetIn};
-ghost use Rattle.spans.specs.Spans.{pinsOf};
+ghost use Rattle.ends.specs.Ends.{pinsOf};
 ghost use Rattle.density.specs.Counted.{AsksDensity, within, netSpans, Added, Small, countedAt};
 
 // The density of a list, from the two sections, the top terminals p and the channel's length.
@@ -49,9 +49,9 @@ fn count_net(net: u16, nets: &[u16], columns: &[u8], counts: &mut [u16])
     ensures { λ r. ⌜ Added (weight net) (λ (c : ℕ). netSpans (pinsOf (now (nets .entry)) (now (columns .entry))) c net)
         (now (counts .entry)) (now (counts .exit)) ⌝ }
 {
-    let span = span_of(net, nets, columns);
-    if span.left < span.right {
-        add_span(counts, span.left as usize, span.right as usize);
+    let ends = ends_of(net, nets, columns);
+    if ends.left < ends.right {
+        add_span(counts, ends.left as usize, ends.right as usize);
     }
 }
 

@@ -1,4 +1,4 @@
--- `spans::span_of` meets its contract. The loop's invariant: each end is the one so far, moved on by the pins that are left.
+-- `ends::ends_of` meets its contract. The loop's invariant: each end is the one so far, moved on by the pins that are left.
 -- The measure is how many they are.
 -- Assumes nothing.
 use Prim.Native.Nat.{ℕ, _+_, _-_, _≤_, min, max}
@@ -12,10 +12,10 @@ use lib.Dec.{eqb}
 use Rattle.kind.specs.Kinds.{leftStart, rightStart}
 use Rattle.channel.specs.Density.{Pin}
 use Rattle.channel.specs.Spans.{endFrom, leftmost, rightmost}
-use Rattle.spans.specs.Spans.{pinsOf}
-use Rattle.spans.proofs.Ends.{end-more, end-past}
-use Rattle.spans.proofs.span_of.Statement.{statement}
-use Rattle.spans.proofs.span_of.Tie as tie
+use Rattle.ends.specs.Ends.{pinsOf}
+use Rattle.ends.proofs.Scans.{end-more, end-past}
+use Rattle.ends.proofs.ends_of.Statement.{statement}
+use Rattle.ends.proofs.ends_of.Tie as tie
 
 abbrev Inv-loop : tie.InvT-loop
 Inv-loop net nets columns left₀ right₀ i₀ left right i = (i ≤ length nets)
@@ -82,8 +82,8 @@ returns c =
     (sym (l .inv .2 ∙ end-past min (l .left) (a .net) (a .nets .now) (a .columns .now) (l .i) (c .loop-test .left)))
     (sym (l .inv .3 ∙ end-past max (l .right) (a .net) (a .nets .now) (a .columns .now) (l .i) (c .loop-test .left)))
 
-pub span-of-spec : {M : Type 1} → statement M
-span-of-spec =
+pub ends-of-spec : {M : Type 1} → statement M
+ends-of-spec =
     tie.close
     (tie.spec
     Inv-loop

@@ -8,7 +8,7 @@ use lib.ListN.{length, getD, drop, drop-of-length-le}
 use lib.Dec.{eqb}
 use Rattle.channel.specs.Spans.{endFrom}
 use Rattle.nets.proofs.Nets.{drop-next}
-use Rattle.spans.specs.Spans.{pinsOf}
+use Rattle.ends.specs.Ends.{pinsOf}
 
 -- one end of a net: one pin more
 pub end-more :

@@ -6,18 +6,18 @@ ghost use mathlib.Core.Path.{_≡_};
 ghost use mathlib.Core.Bool.{cond};
 ghost use Prim.Native.Nat.{min, max};
 ghost use lib.ListN.{length};
-ghost use Rattle.spans.specs.Spans.{pinsOf, spanOf};
+ghost use Rattle.ends.specs.Ends.{pinsOf, endsOf};
 
 // The columns of a net's leftmost and rightmost pins; 0 and 255 where it leaves by that end.
-pub struct Span {
+pub struct Ends {
     pub left: u8,
     pub right: u8,
 }
 
 // How far a net reaches. The loop has no branch, so that the compiler can take many pins at a time.
-pub fn span_of(net: u16, nets: &[u16], columns: &[u8]) -> Span
+pub fn ends_of(net: u16, nets: &[u16], columns: &[u8]) -> Ends
     requires { ⌜ length (now nets) ≡ length (now columns) ⌝ }
-    ensures { λ r. ⌜ r ≡ spanOf net (pinsOf (now (nets .entry)) (now (columns .entry))) ⌝ }
+    ensures { λ r. ⌜ r ≡ endsOf net (pinsOf (now (nets .entry)) (now (columns .entry))) ⌝ }
 {
     let kind = kind_of(net);
     let mut left = left_start(kind);
@@ -30,7 +30,7 @@ pub fn span_of(net: u16, nets: &[u16], columns: &[u8]) -> Span
         right = larger(right, pick(own, columns[i], 0));
         i += 1;
     }
-    Span { left, right }
+    Ends { left, right }
 }
 
 fn pick(yes: bool, a: u8, b: u8) -> u8
@@ -39,13 +39,13 @@ fn pick(yes: bool, a: u8, b: u8) -> u8
     if yes { a } else { b }
 }
 
-fn smaller(a: u8, b: u8) -> u8
+pub fn smaller(a: u8, b: u8) -> u8
     ensures { λ r. ⌜ r ≡ min a b ⌝ }
 {
     if a < b { a } else { b }
 }
 
-fn larger(a: u8, b: u8) -> u8
+pub fn larger(a: u8, b: u8) -> u8
     ensures { λ r. ⌜ r ≡ max a b ⌝ }
 {
     if a < b { b } else { a }
