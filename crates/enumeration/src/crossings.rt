@@ -5,7 +5,7 @@ use crate::pins;
 
 // What a net has in every column before its pins are looked at, by the ends at which it leaves: 1 for the left, 2 for the
 // right, and 4 for either, as a pin that stands beyond that end would give.
-fn leaves(net: u16) -> u8 {
+pub fn leaves(net: u16) -> u8 {
     if net <= 60000 {
         return 0;
     }
@@ -46,7 +46,7 @@ fn stands(column: u8, c: u8) -> u8 {
 // Whether the net whose first terminal is `first` crosses column c: a pin at or left of c, one at or right of it, and
 // one that is not in it, but for what it has by leaving. A net is counted once, so a later terminal of it is none's
 // first.
-fn crosses(sheet: Sheet, list: List, first: usize, net: u16, c: u8) -> bool {
+pub fn crosses(sheet: Sheet, list: List, first: usize, net: u16, c: u8) -> bool {
     let end = pins(sheet);
     let mut seen = leaves(net);
     let mut t = 0;

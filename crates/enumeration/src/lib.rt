@@ -1,16 +1,26 @@
-// Every list of allowed columns of a small sheet, tried by the definitions alone: nothing here asks the library.
+// Every list of allowed columns of a small sheet, and the tracks of a list, by the definitions alone: nothing here asks the library.
 mod assignments;
 mod crossings;
 mod lists;
+mod routes;
 mod words;
 
 pub use assignments::Best;
 pub use assignments::find_best;
 pub use assignments::first_amount;
 pub use crossings::density;
+pub use crossings::leaves;
 pub use crossings::leaving;
+pub use lists::column;
 pub use lists::count_lists;
 pub use lists::list_of;
+pub use routes::Routing;
+pub use routes::Span;
+pub use routes::Spans;
+pub use routes::count_nets;
+pub use routes::no_routing;
+pub use routes::no_spans;
+pub use routes::route;
 use terminal::Record;
 ghost use Prim.Native.Nat.{_≤_};
 

@@ -35,7 +35,7 @@ pub fn count_lists(sheet: Sheet) -> u64 {
 }
 
 // Column number k of a set, from 0, and 64 where it has no more than k.
-fn column(set: u64, k: u64) -> u8 {
+pub fn column(set: u64, k: u64) -> u8 {
     let mut rest = set;
     let mut left = k;
     while 0 < left {
