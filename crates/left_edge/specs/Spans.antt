@@ -1,8 +1,8 @@
 -- The spans of a sheet's nets for a column list (document 02, T-04).
 -- Assumes nothing.
 use Prim.Native.Nat.{ℕ}
-use mathlib.Core.List.{List, _++_, map}
-use mathlib.Core.Bool.{Bool, not, cond, _&&_}
+use mathlib.Core.List.{List, [], _∷_, _++_, map}
+use mathlib.Core.Bool.{Bool, false, not, cond, _&&_, _||_}
 use lib.Dec.{eqb}
 use Rattle.kind.specs.Kinds.{kindOf, leavesLeft, leavesRight}
 use Rattle.channel.specs.Sheet.{Sheet}
@@ -37,6 +37,11 @@ spansIn l ps ns = leftEdge (map (intervalOf l ps) (netsByLeft ps ns))
 abbrev pub spansOf : Sheet → List ℕ → List Span
 spansOf s cs = spansIn (s .columns) (pins (s .top ++ s .bottom) cs) (nets (s .top ++ s .bottom))
 
--- "a column has pins of two nets"
+-- two pins in one column are of different nets
+abbrev pub differ : Pin → Pin → Bool
+differ p o = eqb (p .column) (o .column) && not (eqb (p .net) (o .net))
+
+-- "a column has pins of two nets": a pin and a later one
 abbrev pub twoNets : List Pin → Bool
-twoNets ps = any (λ (p : Pin). any (λ (o : Pin). eqb (p .column) (o .column) && not (eqb (p .net) (o .net))) ps) ps
+twoNets [] = false
+twoNets (p ∷ ps) = any (differ p) ps || twoNets ps

@@ -1,5 +1,5 @@
 pub mod Free
-pub mod Pins
+pub mod Seen
 pub mod OnTracks
 pub mod Answers
 pub mod Sheets

@@ -10,16 +10,15 @@ use order::order_nets;
 use tracked::Routed;
 use tracked::Tracked;
 ghost use mathlib.Core.Path.{_≡_};
-ghost use mathlib.Core.Bool.{not, _&&_};
 ghost use mathlib.Core.List.{_++_};
-ghost use Prim.Native.Nat.{_≤_};
+ghost use Prim.Native.Nat.{ℕ, _≤_, _<_};
 ghost use lib.ListN.{length};
-ghost use lib.Dec.{eqb};
-ghost use Rattle.channel.specs.Density.{Pin, pins, any};
+ghost use Rattle.channel.specs.Density.{pins};
 ghost use Rattle.channel.specs.Cut.{nets as netsOf};
 ghost use Rattle.format.specs.Parts.{terminalsIn};
 ghost use Rattle.soundness.specs.Read.{sheetOf};
 ghost use Rattle.ends.specs.Ends.{pinsOf};
+ghost use Rattle.left_edge.specs.Lists.{Each};
 ghost use Rattle.left_edge.specs.Spans.{spansOf, twoNets};
 ghost use Rattle.order.specs.Keys.{Columns};
 ghost use Rattle.tracks.specs.Answer.{Gives, GivesIn, AsksTracks, trackedOf};
@@ -94,28 +93,19 @@ fn route_nets(nets: &[u16], columns: &[u8], l: u8, room: usize) -> Routed
 
 // Whether a column has pins of two nets.
 fn two_nets(nets: &[u16], columns: &[u8]) -> bool
-    requires { ⌜ length (now nets) ≡ length (now columns) ⌝ }
+    requires { ⌜ (length (now nets) ≡ length (now columns)) × Each (λ (c : ℕ). c < 256) (now columns) ⌝ }
     ensures { λ r. ⌜ r ≡ twoNets (pinsOf (now (nets .entry)) (now (columns .entry))) ⌝ }
 {
+    // one more than the net of the last pin in each column, 0 where there was none
+    let mut seen: [u32; 256] = [0; 256];
     let mut found = false;
     let mut i = 0;
     while i < nets.len() {
-        found = found | other_net(nets[i], columns[i], nets, columns);
-        i += 1;
-    }
-    found
-}
-
-// Whether a column has a pin of another net. The loop has no branch, so that the compiler can take many pins at a time.
-fn other_net(net: u16, column: u8, nets: &[u16], columns: &[u8]) -> bool
-    requires { ⌜ length (now nets) ≡ length (now columns) ⌝ }
-    ensures { λ r. ⌜ r ≡ any (λ (o : Pin). eqb column (o .column) && not (eqb net (o .net)))
-        (pinsOf (now (nets .entry)) (now (columns .entry))) ⌝ }
-{
-    let mut found = false;
-    let mut i = 0;
-    while i < nets.len() {
-        found = found | ((column == columns[i]) & (net != nets[i]));
+        let mark = nets[i] as u32 + 1;
+        let column = columns[i] as usize;
+        let before = seen[column];
+        found = found | ((before != 0) & (before != mark));
+        seen[column] = mark;
         i += 1;
     }
     found

@@ -12,11 +12,17 @@ use Rattle.left_edge.specs.declared.Span.{Span}
 use Rattle.left_edge.specs.Lists.{Each}
 use Rattle.left_edge.specs.Method.{leftEdge}
 use Rattle.left_edge.specs.Spans.{spansIn}
+use Rattle.left_edge.proofs.Lists.{each-map}
 use Rattle.order.specs.Keys.{keysByLeft, intervalAt}
 use Rattle.order.proofs.Keys.{Number, numbers-known}
 use Rattle.tracks.proofs.Answers.{gives-two-nets, gives-short, gives-tracks, keys-count, keys-few, keys-spans, keys-start}
 use Rattle.tracks.proofs.route_nets.Statement.{statement}
 use Rattle.tracks.proofs.route_nets.Tie as tie
+
+two-nets-requires : tie.Need-two-nets-requires
+two-nets-requires c κs =
+    let columns = c .before .before .pre .0 in
+    (columns .long, each-map _ _ (c .before .before .args .columns .now) (λ k h. omega (arith, h .1, columns .short)) (columns .inside))
 
 returns : tie.Need-returns
 returns c =
@@ -107,7 +113,7 @@ pub route-nets-spec : {M : Type 1} → statement M
 route-nets-spec =
     tie.close
     (tie.spec
-    (λ c κs. search needs)
+    two-nets-requires
     (λ c κs. search needs)
     returns
     (λ c. search needs)
