@@ -22,7 +22,7 @@ use mathlib.Core.WellFounded.{WellFounded, InvImage·wf}
 use mathlib.Core.Bool.{Bool}
 use mathlib.Core.Logic.{inl, inr}
 use mathlib.Core.List.{List, [], _∷_}
-use lib.ListN.{length, set, length-map}
+use lib.ListN.{length, set}
 use lib.WfN.{Nat·lt-wfRel}
 use lib.Dec.{T as Holds, lit<}
 use borrow.Author.Tests.{lt-ltb, le-ltb}
@@ -73,6 +73,7 @@ use Rattle.tracked.specs.Numbers.{countOf}
 use Rattle.tracked.proofs.Routed as T
 use Rattle.tracked.proofs.Routed.Laws as T′
 use Rattle.span_array.specs.Spans.{spanAt}
+use Rattle.span_array.proofs.Answers.{spans-of}
 use Rattle.span_array.proofs.Filled.{filled, filled-next, length-filled}
 use Rattle.span_array.proofs.Steps.{itself, value, returned}
 use Rattle.span_array.proofs.span_count as span-count
@@ -119,11 +120,6 @@ next-fits less few = omega arith
 
 below : {i n l : ℕ} → i < n → n ≤ l → i < l
 below less within = omega arith
-
--- an answer has 128 spans: its type says so
-spans-of : (routed : Routed) (vs : List Val) → Is Rᵗ routed vs → length (routed .spans) ≡ 128
-spans-of routed vs is =
-    sym (length-map (routed .spans) (S.the-type .to)) ∙ LL.owed T.the-type T′.the-laws routed vs is .1 .0 .1 .0 .1
 
 module _ {M : Type 1} (𝓤 : URA M) (H : Heap 𝓤) (A : Atoms 𝓤) (W : Given 𝓤 H A) (mem : Memory → SProp 𝓤) (run : Routine → Fun 𝓤)
     (κ : Lft) (q : Share) (b o : ℕ) (γ : GName) (ys : List Span) (routed : Routed) (rv : Val)
