@@ -1,16 +1,16 @@
 /*
  * Cazdrob: the best pin assignment of a routing channel, for C and C++.
  *
- * docs/FORMAT.md has the rules: how a sheet is written, which assignment is the best one, how two sides of modules become a sheet, what
- * each refusal means.
+ * docs/FORMAT.md has the rules: how a sheet is written, which assignment is the best one, which track each net of a clean assignment gets,
+ * how two sides of modules become a sheet, what each refusal means.
  *
  * What the caller owes, in every call:
  *   - no pointer is null, not even one with length 0;
- *   - each points to as many elements as its length says (density, amount and written: to one), readable, and writable where it is not
- *     const, and is aligned for its type;
+ *   - each points to as many elements as its length says (density, amount, nets, tracks and written: to one), readable, and writable where
+ *     it is not const, and is aligned for its type;
  *   - none has a length of more than PTRDIFF_MAX bytes;
- *   - what is written (columns and work of a search, the sheet that is made, density, amount, written) overlaps nothing else that is
- *     passed;
+ *   - what is written (columns and work of a search, spans, the sheet that is made, density, amount, nets, tracks, written) overlaps
+ *     nothing else that is passed;
  *   - during the call no other thread writes what was passed, and none reads what is written. Several threads may pass one sheet.
  * Nothing else is asked: every content of these buffers, every length and every byte has its answer.
  *
@@ -18,7 +18,8 @@
  *   - the result and what is left in every buffer are as said below, on good input and on bad;
  *   - no memory is allocated, no state is kept between calls, nothing but the buffers is written, and every call returns.
  *
- * The stack is not part of the promise. Measured on x86-64, a search takes less than 20,000 bytes of it, the others less than 2,000.
+ * The stack is not part of the promise. Measured on x86-64, a search takes less than 20,000 bytes of it, tracks less than 7,000, the others
+ * less than 2,000.
  */
 #ifndef CAZDROB_H
 #define CAZDROB_H
@@ -34,12 +35,13 @@ extern "C" {
  * The numbers that are returned. Of several refusals that apply, the first is given:
  *   - of a sheet: 1 to 5 in turn, then each terminal, top then bottom, for 6, 7 and 8, then 9 to 11 in a search, 12 to 14 in a measurement:
  *     13 over all terminals, then 14 over all pairs, top then bottom;
+ *   - of tracks: as of a measurement, then 18 and 9;
  *   - of modules: 3, then 16 over all modules, top then bottom, then 17 likewise, then 4, 6 and 9.
  * 15 is the program's alone.
  */
 enum cazdrob_number {
     CAZDROB_OK = 0,
-    /* the sheet: given by cazdrob_check, cazdrob_measure and cazdrob_search; 3, 4 and 6 by cazdrob_modules too */
+    /* the sheet: given by cazdrob_check, cazdrob_measure, cazdrob_search and cazdrob_tracks; 3, 4 and 6 by cazdrob_modules too */
     CAZDROB_SHORT = 1,    /* the sheet is shorter than 12 bytes */
     CAZDROB_MARK = 2,     /* its last two bytes are not CP */
     CAZDROB_LENGTH = 3,   /* L is 0 or above 64 */
@@ -52,19 +54,23 @@ enum cazdrob_number {
     CAZDROB_COLUMNS = 9,        /* the column buffer is shorter than p+q bytes */
     CAZDROB_CELLS = 10,         /* the work buffer is shorter than cazdrob_cells says */
     CAZDROB_NO_ASSIGNMENT = 11, /* no assignment exists */
-    /* given by cazdrob_measure alone */
+    /* given by cazdrob_measure and cazdrob_tracks */
     CAZDROB_LIST_LENGTH = 12,  /* the list is not p+q long */
     CAZDROB_NOT_ALLOWED = 13,  /* a listed column is not in its terminal's set */
     CAZDROB_OUT_OF_RANGE = 14, /* a distance is out of range, by *amount columns */
     /* given by cazdrob_modules alone; its 9 is the sheet buffer, that of a search the column buffer */
     CAZDROB_SHEET_BUFFER = 9, /* the sheet buffer is shorter than 12(p+q)+12 bytes */
     CAZDROB_MODULE = 16,      /* a module breaks its rule, or a side has more than 16 of them */
-    CAZDROB_EDGE = 17         /* a module's set names a left edge from which it does not fit the channel */
+    CAZDROB_EDGE = 17,        /* a module's set names a left edge from which it does not fit the channel */
+    /* given by cazdrob_tracks alone; its 9 is the array of records */
+    CAZDROB_SPAN_BUFFER = 9, /* the array has fewer records than the sheet has nets */
+    CAZDROB_TWO_NETS = 18    /* a column has pins of two nets */
 };
 
-/* Enough for every sound sheet: its bytes, and the columns of its terminals. */
+/* Enough for every sound sheet: its bytes, the columns of its terminals, and the records of its nets. */
 #define CAZDROB_SHEET_MAX 1548
 #define CAZDROB_COLUMNS_MAX 128
+#define CAZDROB_NETS_MAX 128
 
 /* Enough for every list of modules that is not refused: 16 modules with 64 pins in all. */
 #define CAZDROB_SIDE_MAX 352
@@ -113,6 +119,40 @@ uint32_t cazdrob_search(const uint8_t *sheet, size_t sheet_len,
                         uint8_t *columns, size_t columns_len,
                         uint16_t *work, size_t work_len,
                         uint32_t *density);
+
+/* A net of the sheet, the columns that it runs from and to, and its track. It has 8 bytes. */
+struct cazdrob_span {
+    uint16_t net;
+    uint16_t left;
+    uint16_t right;
+    uint16_t track; /* from 1; 0 where the net crosses no column, so that it takes no track */
+};
+
+/*
+ * The tracks of a clean assignment, one in which no column has pins of two nets: exactly as many as its density. A net of one pin is a net
+ * like others here, and two pins of one net may share a column. The column list is as in a measurement.
+ *
+ * Each net of the sheet gets a record, by rising left end and, of equal left ends, by rising net. The ends are the columns of its leftmost
+ * and its rightmost pin; a net that leaves the channel at the left has column 1 as its left end, one that leaves at the right column L as
+ * its right end. In this order each net gets the lowest track, from 1, on which none before it has a column in common with it, the ends
+ * included. A net that crosses no column, a plain one with all its pins in one column, has that column as both ends and gets track 0.
+ *
+ * The refusals, in their order:
+ *   1 to 8 and 12 to 14, as of cazdrob_measure;
+ *   18  a column has a top pin and a bottom pin of different nets;
+ *   9   there are fewer records in spans than nets in the sheet.
+ * The sheet and the list may overlap, as neither is written. What spans, nets, tracks and amount held before plays no part.
+ *
+ *   returned              *nets               *tracks      *amount                spans
+ *   0                     the number of nets  the density  0                      the first *nets records are written,
+ *                                                                                 the rest is unchanged
+ *   14                    0                   0            as of cazdrob_measure  unchanged
+ *   1 to 9, 12, 13 or 18  0                   0            0                      unchanged
+ */
+uint32_t cazdrob_tracks(const uint8_t *sheet, size_t sheet_len,
+                        const uint8_t *columns, size_t columns_len,
+                        struct cazdrob_span *spans, size_t spans_len,
+                        size_t *nets, uint32_t *tracks, int32_t *amount);
 
 /*
  * Makes the sheet of two sides of modules, such as two rows of standard cells. A module covers some columns, has its pins in fixed places

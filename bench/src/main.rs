@@ -3,7 +3,7 @@
 mod plain;
 mod sheets;
 
-use cazdrob::Refusal;
+use cazdrob::{Refusal, Span, Tracks, NETS_MAX};
 use sheets::{open, sheet, Plan};
 use std::hint::black_box;
 use std::process::ExitCode;
@@ -18,6 +18,7 @@ struct Trial {
     list: Vec<u8>,
     columns: Vec<u8>,
     work: Vec<u16>,
+    spans: Vec<Span>,
 }
 
 #[derive(Clone, Copy, PartialEq)]
@@ -26,10 +27,12 @@ enum Job {
     PlainSearch,
     Measure,
     PlainMeasure,
+    Tracks,
+    PlainTracks,
     Clear,
 }
 
-/// A density, or the number and the amount of a refusal.
+/// A density or a number of tracks, or the number and the amount of a refusal.
 type Answer = Result<u32, (u32, i32)>;
 
 fn refused(why: Refusal) -> (u32, i32) {
@@ -42,7 +45,13 @@ impl Trial {
         let sheet = sheet(plan);
         let work = vec![0; cazdrob::cells(&sheet)];
         let columns = vec![0; plan.top + plan.bottom];
-        Trial { sheet, list: columns.clone(), columns, work }
+        Trial { sheet, list: columns.clone(), columns, work, spans: vec![Span::default(); NETS_MAX] }
+    }
+
+    /// With a clean list: the top pins in columns 1, 3, 5 and so on, the bottom pins in columns 2, 4, 6 and so on.
+    fn clean(plan: &Plan) -> Trial {
+        let list = (0..plan.top).map(|k| 2 * k + 1).chain((0..plan.bottom).map(|k| 2 * k + 2)).map(|column| column as u8).collect();
+        Trial { list, ..Trial::new(plan) }
     }
 
     fn job(&mut self, job: Job) -> Answer {
@@ -53,6 +62,8 @@ impl Trial {
             Job::PlainSearch => plain::search(sheet, &mut self.columns, &mut self.work).map_err(|number| (number, 0)),
             Job::Measure => cazdrob::measure(sheet, list).map_err(refused),
             Job::PlainMeasure => plain::measure(sheet, list),
+            Job::Tracks => cazdrob::tracks(sheet, list, &mut self.spans).map(|used| used.tracks).map_err(refused),
+            Job::PlainTracks => plain::tracks(sheet, list, &mut self.spans).map(|used| used.tracks),
             Job::Clear => {
                 black_box(&mut self.work[..]).fill(0);
                 Ok(0)
@@ -90,6 +101,17 @@ impl Trial {
             return Err(format!("searching gives {:?} and measuring what it found {ours:?}", found[0].0));
         }
         Ok(found[0].0)
+    }
+
+    /// Both programs have to give the same tracks and leave the same records.
+    fn agree_on_tracks(&mut self) -> Result<Tracks, String> {
+        let (sheet, list) = (&self.sheet[..], &self.list[..]);
+        let [mut ours, mut plain] = [(); 2].map(|()| vec![Span { net: 7, left: 7, right: 7, track: 7 }; NETS_MAX]);
+        let used = cazdrob::tracks(sheet, list, &mut ours).map_err(refused);
+        if (used, &ours) != (plain::tracks(sheet, list, &mut plain), &plain) {
+            return Err(format!("tracks: the library gives {used:?} and {ours:?}, the plain program {plain:?}"));
+        }
+        used.map_err(|(number, _)| format!("tracks: refused {number}"))
     }
 
     // kept as a function for callgrind to find
@@ -136,6 +158,16 @@ fn rows() -> Vec<(&'static str, Plan)> {
         ("32 a side on 64", open(32, 64)),
         ("32 a side on 64, ranges 1 to 4", Plan { range: (1, 4), ..open(32, 64) }),
         ("16 a side on 40, no assignment", Plan { last_top: 15, ..open(16, 40) }),
+    ]
+}
+
+fn track_rows() -> Vec<(&'static str, Plan)> {
+    vec![
+        ("5 a side on 12", open(5, 12)),
+        ("16 a side on 40", open(16, 40)),
+        ("32 a side on 64", open(32, 64)),
+        ("32 a side on 64, two pins a net", Plan { nets: 32, ..open(32, 64) }),
+        ("32 a side on 64, leaving nets", Plan { nets: 64, first_net: 64_001, ..open(32, 64) }),
     ]
 }
 
@@ -190,6 +222,24 @@ has the columns 1 to 16 on each side and both refuse it with 13.",
     Ok(())
 }
 
+fn track_table() -> Result<(), String> {
+    println!("\nTracks of clean assignments\n");
+    println!("{:<3}  {:<31}  {:>4}  {:>6}  {:>11}{:>11}{:>8}", "row", "sheet", "nets", "tracks", "Cazdrob", "plain", "ratio");
+    for (k, (name, plan)) in track_rows().iter().enumerate() {
+        let mut trial = Trial::clean(plan);
+        let Tracks { nets, tracks } = trial.agree_on_tracks().map_err(|why| format!("row {} of tracks: {why}", k + 1))?;
+        let [ours, plain] = trial.time([Job::Tracks, Job::PlainTracks]);
+        let ratio = plain / ours;
+        println!("{:<3}  {name:<31}  {nets:>4}  {tracks:>6}  {:>11}{:>11}{ratio:>8.2}", k + 1, span(ours), span(plain));
+    }
+    println!(
+        "
+The top pins are in columns 1, 3, 5 and so on, the bottom pins in columns 2, 4, 6 and so on. Before the timing both
+gave the same tracks and left the same records. Row 5 has 64 nets of one pin that leave at both ends."
+    );
+    Ok(())
+}
+
 fn growth(title: &str, plans: &[Plan]) -> Result<(), String> {
     println!("\n{title}\n");
     println!("{:>6}  {:>3}  {:>11}{:>8}  {:>11}{:>8}", "a side", "L", "Cazdrob", "growth", "plain", "growth");
@@ -230,7 +280,7 @@ one with distances. Another machine and other sheets: only the order of magnitud
 }
 
 fn only(words: &[String]) -> Result<(), String> {
-    let usage = "usage: bench/run [--only ROW search|plain|measure|plain-measure N]";
+    let usage = "usage: bench/run [--only ROW search|plain|measure|plain-measure|tracks|plain-tracks N]";
     let [row, job, times] = words else {
         return Err(usage.into());
     };
@@ -241,11 +291,14 @@ fn only(words: &[String]) -> Result<(), String> {
         "plain" => Job::PlainSearch,
         "measure" => Job::Measure,
         "plain-measure" => Job::PlainMeasure,
+        "tracks" => Job::Tracks,
+        "plain-tracks" => Job::PlainTracks,
         _ => return Err(usage.into()),
     };
-    let rows = rows();
+    let of_tracks = matches!(job, Job::Tracks | Job::PlainTracks);
+    let rows = if of_tracks { track_rows() } else { rows() };
     let (_, plan) = row.checked_sub(1).and_then(|k| rows.get(k)).ok_or("no such row")?;
-    let mut trial = Trial::new(plan);
+    let mut trial = if of_tracks { Trial::clean(plan) } else { Trial::new(plan) };
     if matches!(job, Job::Measure | Job::PlainMeasure) {
         trial.agree()?.ok();
     }
@@ -256,6 +309,7 @@ fn only(words: &[String]) -> Result<(), String> {
 
 fn tables() -> Result<(), String> {
     main_table()?;
+    track_table()?;
     growth("Search as L doubles", &[16, 32, 64].map(|length| open(8, length)))?;
     growth("Search as p and q double", &[4, 8, 16, 32].map(|pins| open(pins, 64)))?;
     paper_table()

@@ -1,6 +1,8 @@
 //! The program that the library is compared with: section 5.1 of Cai and Wong's paper written down directly. The table is
-//! d(i, j, u, v), the least density with the i-th top pin in column u and the j-th bottom pin in column v.
+//! d(i, j, u, v), the least density with the i-th top pin in column u and the j-th bottom pin in column v. Tracks are given by the
+//! left-edge method.
 
+use cazdrob::{Span, Tracks};
 use std::ops::Range;
 
 const INFINITY: u16 = u16::MAX;
@@ -282,8 +284,8 @@ pub fn search(sheet: &[u8], columns: &mut [u8], work: &mut [u16]) -> Result<u32,
     }
 }
 
-/// The density of a column list, or the number and the amount of a refusal.
-pub fn measure(sheet: &[u8], columns: &[u8]) -> Result<u32, (u32, i32)> {
+/// The channel that a column list is an assignment of, or the number and the amount of a refusal.
+fn assigned(sheet: &[u8], columns: &[u8]) -> Result<Channel, (u32, i32)> {
     let channel = read(sheet).map_err(|number| (number, 0))?;
     let p = channel.top.len();
     if columns.len() != p + channel.bottom.len() {
@@ -309,7 +311,11 @@ pub fn measure(sheet: &[u8], columns: &[u8]) -> Result<u32, (u32, i32)> {
             }
         }
     }
-    // for each net its number and its leftmost and rightmost columns, 0 and L + 1 where it leaves
+    Ok(channel)
+}
+
+/// The nets with their leftmost and rightmost columns, 0 and L + 1 where they leave.
+fn stretches(channel: &Channel, columns: &[u8]) -> Vec<(u16, u8, u8)> {
     let mut nets: Vec<(u16, u8, u8)> = Vec::with_capacity(columns.len());
     for (terminal, &column) in channel.top.iter().chain(&channel.bottom).zip(columns) {
         match nets.iter_mut().find(|net| net.0 == terminal.net) {
@@ -324,7 +330,54 @@ pub fn measure(sheet: &[u8], columns: &[u8]) -> Result<u32, (u32, i32)> {
             }
         }
     }
+    nets
+}
+
+/// The density of a column list, or the number and the amount of a refusal.
+pub fn measure(sheet: &[u8], columns: &[u8]) -> Result<u32, (u32, i32)> {
+    let channel = assigned(sheet, columns)?;
+    let nets = stretches(&channel, columns);
     // a plain net whose pins share one column crosses nothing
     let crossings = (1..=channel.length as u8).map(|c| nets.iter().filter(|net| net.1 < net.2 && net.1 <= c && c <= net.2).count());
     Ok(crossings.max().unwrap_or(0) as u32)
+}
+
+/// The tracks of a clean assignment, or the number and the amount of a refusal.
+pub fn tracks(sheet: &[u8], columns: &[u8], spans: &mut [Span]) -> Result<Tracks, (u32, i32)> {
+    let channel = assigned(sheet, columns)?;
+    let (on_top, at_bottom) = columns.split_at(channel.top.len());
+    // the net of the top pin of each column, 0 where there is none
+    let mut over = [0; 65];
+    for (terminal, &column) in channel.top.iter().zip(on_top) {
+        over[usize::from(column)] = terminal.net;
+    }
+    for (terminal, &column) in channel.bottom.iter().zip(at_bottom) {
+        let net = over[usize::from(column)];
+        if net != 0 && net != terminal.net {
+            return Err((18, 0));
+        }
+    }
+    let mut nets = stretches(&channel, columns);
+    if spans.len() < nets.len() {
+        return Err((9, 0));
+    }
+    nets.sort_unstable_by_key(|&(net, left, _)| (left.max(1), net));
+    // the last column of the last net on each track
+    let mut ends: Vec<u8> = Vec::new();
+    for (span, &(net, left, right)) in spans.iter_mut().zip(&nets) {
+        let crosses = left < right;
+        let (left, right) = (left.max(1), right.min(channel.length as u8));
+        let mut track = 0;
+        if crosses {
+            let free = ends.iter().position(|&end| end < left).unwrap_or(ends.len());
+            if free == ends.len() {
+                ends.push(right);
+            } else {
+                ends[free] = right;
+            }
+            track = free as u16 + 1;
+        }
+        *span = Span { net, left: left.into(), right: right.into(), track };
+    }
+    Ok(Tracks { nets: nets.len(), tracks: ends.len() as u32 })
 }

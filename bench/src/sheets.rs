@@ -18,6 +18,8 @@ pub struct Plan {
     pub top: usize,
     pub bottom: usize,
     pub nets: usize,
+    /// the number of the first net
+    pub first_net: usize,
     /// least and greatest distance of each later terminal
     pub range: (u8, u8),
     /// the last column that the last top terminal may take
@@ -26,14 +28,14 @@ pub struct Plan {
 
 /// Full sets, no distance that binds, and nets of two to four pins that have a pin on each side.
 pub fn open(pins: usize, length: usize) -> Plan {
-    Plan { length, top: pins, bottom: pins, nets: (2 * pins * 2).div_ceil(5), range: (1, 255), last_top: length }
+    Plan { length, top: pins, bottom: pins, nets: (2 * pins * 2).div_ceil(5), first_net: 1, range: (1, 255), last_top: length }
 }
 
 /// The bytes of a sheet whose pins are dealt to the nets in turn and then shuffled, each side by itself.
 pub fn sheet(plan: &Plan) -> Vec<u8> {
     let pins = plan.top + plan.bottom;
     let mut draws = Draws(0x3c6e_f372_fe94_f82a);
-    let mut nets: Vec<usize> = (0..pins).map(|k| k % plan.nets + 1).collect();
+    let mut nets: Vec<usize> = (0..pins).map(|k| plan.first_net + k % plan.nets).collect();
     let (top, bottom) = nets.split_at_mut(plan.top);
     for side in [top, bottom] {
         for k in (1..side.len()).rev() {

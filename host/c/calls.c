@@ -1,6 +1,6 @@
 /*
- * Tests the C functions: sheet A and others, modules, with every byte around the lent buffers held to what it was. Each number that a
- * function can return is seen. Names each case that fails; the last line is 'N passed, M failed'.
+ * Tests the C functions: sheet A and others, tracks, modules, with every byte around the lent buffers held to what it was. Each number
+ * that a function can return is seen. Names each case that fails; the last line is 'N passed, M failed'.
  */
 #include <cazdrob.h>
 #include <stdio.h>
@@ -43,6 +43,17 @@ static const uint8_t LEAVING[48] = {
     0x31, 0xf2, 0, 0,   7, 0, 0, 0, 0, 0, 0, 0, /* B 1, net 62,001: at the right */
     0, 0, 2, 0,         24, 0, 1, 0, 3, 0, 'C', 'P',
 };
+/* four terminals over three on six columns, all allowed */
+static const uint8_t ROUTED[96] = {
+    4, 0, 0, 0,   63, 0, 0, 0, 0, 0, 0, 0, /* T 1 */
+    5, 0, 1, 255, 63, 0, 0, 0, 0, 0, 0, 0, /* T 2 */
+    4, 0, 1, 255, 63, 0, 0, 0, 0, 0, 0, 0, /* T 3 */
+    6, 0, 1, 255, 63, 0, 0, 0, 0, 0, 0, 0, /* T 4 */
+    4, 0, 0, 0,   63, 0, 0, 0, 0, 0, 0, 0, /* B 1 */
+    5, 0, 1, 255, 63, 0, 0, 0, 0, 0, 0, 0, /* B 2 */
+    6, 0, 1, 255, 63, 0, 0, 0, 0, 0, 0, 0, /* B 3 */
+    0, 0, 4, 0,   48, 0, 3, 0, 6, 0, 'C', 'P',
+};
 
 /* the modules of docs/FORMAT.md on top, one more at the bottom, and their sheet on five columns */
 static const uint8_t TOP[29] = {
@@ -65,6 +76,7 @@ static const uint16_t CELL = 0x5aa5;
 static const uint32_t DENSITY = 0xdeadbeef;
 static const int32_t AMOUNT = -0x5aa55aa5;
 static const size_t WRITTEN = 0x5aa55aa5;
+static const struct cazdrob_span SPAN = {0xa55a, 0x5aa5, 0xa5a5, 0x5a5a};
 
 struct lent {
     uint32_t number, density;
@@ -123,10 +135,29 @@ static int measures(const uint8_t *sheet, size_t len, const uint8_t *list, size_
            density[0] == DENSITY && density[2] == DENSITY && amount[0] == AMOUNT && amount[2] == AMOUNT;
 }
 
-/* a measurement on sheet BOUND that is refused with 14 and this amount */
+/* whether tracks on so many records return the number and leave these records, the number of tracks, the amount and nothing else */
+static int routes(const uint8_t *sheet, size_t len, const uint8_t *list, size_t count, size_t room, uint32_t number,
+                  const struct cazdrob_span *records, size_t written, uint32_t wanted, int32_t by) {
+    struct cazdrob_span spans[FRONT + CAZDROB_NETS_MAX + FRONT];
+    size_t nets[3] = {WRITTEN, WRITTEN, WRITTEN};
+    uint32_t tracks[3] = {DENSITY, DENSITY, DENSITY};
+    int32_t amount[3] = {AMOUNT, AMOUNT, AMOUNT};
+    for (size_t i = 0; i < FRONT + CAZDROB_NETS_MAX + FRONT; i++) spans[i] = SPAN;
+    if (cazdrob_tracks(sheet, len, list, count, spans + FRONT, room, &nets[1], &tracks[1], &amount[1]) != number) return 0;
+    for (size_t i = 0; i < FRONT + CAZDROB_NETS_MAX + FRONT; i++) {
+        const struct cazdrob_span *record = i >= FRONT && i < FRONT + written ? &records[i - FRONT] : &SPAN;
+        if (memcmp(&spans[i], record, sizeof SPAN) != 0) return 0;
+    }
+    return nets[1] == written && tracks[1] == wanted && amount[1] == by && nets[0] == WRITTEN && nets[2] == WRITTEN &&
+           tracks[0] == DENSITY && tracks[2] == DENSITY && amount[0] == AMOUNT && amount[2] == AMOUNT;
+}
+
+/* a list of sheet BOUND that is refused with 14 and this amount, measured and for tracks */
 static int out_of_range(uint8_t t1, uint8_t t2, uint8_t t3, uint8_t b1, uint8_t b2, uint8_t b3, int32_t by) {
     const uint8_t list[6] = {t1, t2, t3, b1, b2, b3};
-    return measures(BOUND, 84, list, 6, CAZDROB_OUT_OF_RANGE, 0, by);
+    return measures(BOUND, 84, list, 6, CAZDROB_OUT_OF_RANGE, 0, by) &&
+           routes(BOUND, 84, list, 6, 3, CAZDROB_OUT_OF_RANGE, NULL, 0, 0, by) &&
+           routes(BOUND, 84, list, 6, 0, CAZDROB_OUT_OF_RANGE, NULL, 0, 0, by);
 }
 
 /* sheet A with one byte changed; every function that reads it gives the number */
@@ -136,7 +167,7 @@ static int refuses(size_t at, uint8_t byte, uint32_t number) {
     memcpy(sheet, A, sizeof A);
     sheet[at] = byte;
     return cazdrob_check(sheet, 60) == number && cazdrob_cells(sheet, 60) == 0 && measures(sheet, 60, list, 4, number, 0, 0) &&
-           refused(search(sheet, 60, 4, 144), number, 0);
+           routes(sheet, 60, list, 4, 2, number, NULL, 0, 0, 0) && refused(search(sheet, 60, 4, 144), number, 0);
 }
 
 /* whether two sides, with a buffer of so many bytes, return the number and leave this sheet, its length and nothing else */
@@ -193,10 +224,19 @@ int main(void) {
     static const uint8_t shared[4] = {2, 2, 1, 3}, zero[4] = {2, 2, 0, 1}, above[4] = {2, 65, 1, 2};
     static const uint8_t bound[6] = {1, 3, 4, 1, 4, 5}, beyond[6] = {5, 2, 3, 1, 4, 9};
     static const uint8_t apart[3] = {1, 2, 2}, together[3] = {1, 2, 1}, past[3] = {2, 3, 1};
+    static const uint8_t rising[3] = {1, 2, 3}, spread[6] = {1, 3, 4, 2, 5, 6};
+    static const uint8_t again[7] = {1, 2, 3, 5, 1, 4, 6}, pair[7] = {1, 2, 3, 5, 1, 4, 5};
+    static const struct cazdrob_span of_best[2] = {{2, 1, 3, 1}, {1, 2, 2, 0}}, of_rival[2] = {{1, 1, 3, 1}, {2, 2, 2, 0}};
+    static const struct cazdrob_span of_rising[3] = {{60001, 1, 1, 1}, {65535, 1, 3, 2}, {62001, 3, 3, 1}};
+    static const struct cazdrob_span of_turned[3] = {{60001, 1, 2, 1}, {65535, 1, 3, 2}, {62001, 3, 3, 1}};
+    static const struct cazdrob_span of_spread[3] = {{1, 1, 6, 1}, {3, 2, 4, 2}, {2, 3, 5, 3}};
+    static const struct cazdrob_span of_again[3] = {{4, 1, 3, 1}, {5, 2, 4, 2}, {6, 5, 6, 1}};
+    static const struct cazdrob_span of_pair[3] = {{4, 1, 3, 1}, {5, 2, 4, 2}, {6, 5, 5, 0}};
+    static const struct cazdrob_span of_single[4] = {{4, 1, 3, 1}, {5, 2, 4, 2}, {6, 5, 5, 0}, {7, 6, 6, 0}};
     static const uint8_t placed[4] = {1, 3, 5, 3}, bare[10] = {3, 0, 7, 0, 0, 0, 0, 0, 0, 0};
     static const uint8_t nowhere[24] = {6, 0, 0, 0, 0, 0, 0, 0, 0, 0, 0, 0, 0, 0, 0, 0, 0, 0, 1, 0, 5, 0, 'C', 'P'};
     static const uint8_t twice_trailer[12] = {0, 0, 3, 0, 36, 0, 3, 0, 5, 0, 'C', 'P'};
-    uint8_t sheet[60], top[29], wider[13], twice[84];
+    uint8_t sheet[60], turned[48], single[96], top[29], wider[13], twice[84];
 
     EXPECT(cazdrob_check(A, 60) == 0);
     EXPECT(cazdrob_cells(A, 60) == 144);
@@ -279,6 +319,50 @@ int main(void) {
     EXPECT(out_of_range(1, 3, 4, 1, 8, 8, 4));
     EXPECT(out_of_range(1, 3, 3, 1, 8, 8, -1));
     EXPECT(out_of_range(1, 3, 8, 5, 1, 1, 4));
+
+    EXPECT(sizeof(struct cazdrob_span) == 8);
+    EXPECT(offsetof(struct cazdrob_span, net) == 0);
+    EXPECT(offsetof(struct cazdrob_span, left) == 2);
+    EXPECT(offsetof(struct cazdrob_span, right) == 4);
+    EXPECT(offsetof(struct cazdrob_span, track) == 6);
+    /* as many records as nets, and more; a net with both pins in one column has track 0 */
+    EXPECT(routes(A, 60, best, 4, 2, 0, of_best, 2, 1, 0));
+    EXPECT(routes(A, 60, best, 4, CAZDROB_NETS_MAX, 0, of_best, 2, 1, 0));
+    EXPECT(routes(A, 60, rival, 4, 4, 0, of_rival, 2, 1, 0));
+    EXPECT(routes(EMPTY, 12, best, 0, 0, 0, NULL, 0, 0, 0));
+    EXPECT(routes(EMPTY, 12, best, 0, 2, 0, NULL, 0, 0, 0));
+    /* nets that leave: T 1 and B 1 cross one column each and share a track, T 2 crosses every column */
+    EXPECT(routes(LEAVING, 48, rising, 3, 3, 0, of_rising, 3, 2, 0));
+    /* T 1 and T 2 exchanged: the left ends are equal, and the lower net is first */
+    memcpy(turned, LEAVING, sizeof LEAVING);
+    memcpy(turned, LEAVING + 12, 2);
+    memcpy(turned + 12, LEAVING, 2);
+    EXPECT(routes(turned, 48, rising, 3, 3, 0, of_turned, 3, 2, 0));
+    EXPECT(routes(BOUND, 84, spread, 6, 5, 0, of_spread, 3, 3, 0));
+    /* net 4 has three pins, two of them in column 1; net 6 is on the track of net 4, or needs none */
+    EXPECT(routes(ROUTED, 96, again, 7, 3, 0, of_again, 3, 2, 0));
+    EXPECT(routes(ROUTED, 96, pair, 7, 3, 0, of_pair, 3, 2, 0));
+    EXPECT(routes(A, 11, shared, 4, 4, CAZDROB_SHORT, NULL, 0, 0, 0));
+    EXPECT(routes(A, 60, leftmost, 3, 4, CAZDROB_LIST_LENGTH, NULL, 0, 0, 0));
+    EXPECT(routes(A, 60, leftmost, 0, 0, CAZDROB_LIST_LENGTH, NULL, 0, 0, 0));
+    EXPECT(routes(BOUND, 84, pair, 7, 3, CAZDROB_LIST_LENGTH, NULL, 0, 0, 0));
+    EXPECT(routes(A, 60, zero, 4, 4, CAZDROB_NOT_ALLOWED, NULL, 0, 0, 0));
+    EXPECT(routes(A, 60, above, 4, 1, CAZDROB_NOT_ALLOWED, NULL, 0, 0, 0));
+    EXPECT(routes(A, 60, shared, 4, 1, CAZDROB_OUT_OF_RANGE, NULL, 0, 0, -1));
+    /* two plain nets in a column; two that leave; two of one pin each, which cross nothing */
+    EXPECT(routes(A, 60, leftmost, 4, 2, CAZDROB_TWO_NETS, NULL, 0, 0, 0));
+    EXPECT(routes(A, 60, leftmost, 4, 1, CAZDROB_TWO_NETS, NULL, 0, 0, 0));
+    EXPECT(routes(A, 60, leftmost, 4, 0, CAZDROB_TWO_NETS, NULL, 0, 0, 0));
+    EXPECT(routes(LEAVING, 48, apart, 3, 3, CAZDROB_TWO_NETS, NULL, 0, 0, 0));
+    memcpy(single, ROUTED, sizeof ROUTED);
+    single[72] = 7; /* the net of B 3 */
+    EXPECT(routes(single, 96, again, 7, 4, 0, of_single, 4, 2, 0));
+    EXPECT(routes(single, 96, pair, 7, 4, CAZDROB_TWO_NETS, NULL, 0, 0, 0));
+    EXPECT(routes(single, 96, again, 7, 3, CAZDROB_SPAN_BUFFER, NULL, 0, 0, 0));
+    single[72] = 6, single[73] = 1; /* net 262 under net 6 */
+    EXPECT(routes(single, 96, pair, 7, 4, CAZDROB_TWO_NETS, NULL, 0, 0, 0));
+    EXPECT(routes(A, 60, best, 4, 1, CAZDROB_SPAN_BUFFER, NULL, 0, 0, 0));
+    EXPECT(routes(A, 60, best, 4, 0, CAZDROB_SPAN_BUFFER, NULL, 0, 0, 0));
 
     EXPECT(makes(5, TOP, 29, BOTTOM, 13, 60, 0, MADE, 60));
     EXPECT(makes(5, TOP, 29, BOTTOM, 13, CAZDROB_SHEET_MAX, 0, MADE, 60));

@@ -12,6 +12,10 @@ use Rattle.measured.specs.Numbers as measured
 use Rattle.measure.specs.Answer.{measuredOf}
 use Rattle.searched.specs.Numbers as searched
 use Rattle.search.specs.Answer.{searchedOf, columnsAfter, workAfter}
+use Rattle.left_edge.specs.declared.Span.{Span}
+use Rattle.tracked.specs.declared.Tracked.{Tracked}
+use Rattle.tracked.specs.Numbers as tracked
+use Rattle.tracks.specs.Answer.{trackedOf, spansAfter}
 use Rattle.made.specs.Numbers as made
 use Rattle.module_sheet.specs.Answer.{madeOf, sheetAfter, ReadsBack}
 
@@ -32,6 +36,18 @@ pub record HostSearches (bytes buffer work buffer' work' : List ℕ) (density' r
   pub density : density' ≡ searched.densityOf (searchedOf bytes (length buffer) (length work))
   pub columns : buffer' ≡ columnsAfter bytes (length work) buffer
   pub cells : work' ≡ workAfter bytes (length buffer) work
+
+-- what is left of an answer about tracks in the caller's numbers
+pub record HostNumbers (answer : Tracked) (nets' tracks' : ℕ) (amount' : ℤ) (r : ℕ) : Type 0 where
+  pub number : r ≡ tracked.numberOf answer
+  pub nets : nets' ≡ tracked.countOf answer
+  pub tracks : tracks' ≡ tracked.tracksOf answer
+  pub amount : amount' ≡ tracked.amountOf answer
+
+-- the promise about tracks: its number, the numbers it leaves, and the array of spans at exit
+pub record HostTracks (bytes columns : List ℕ) (array array' : List Span) (nets' tracks' : ℕ) (amount' : ℤ) (r : ℕ) : Type 0 where
+  pub numbers : HostNumbers (trackedOf bytes columns (length array)) nets' tracks' amount' r
+  pub spans : array' ≡ spansAfter bytes columns array
 
 -- the promise about two sides of modules: its number, the length it leaves, the sheet buffer at exit, and that the sheet reads back
 pub record HostMakes (l : ℕ) (top bottom sheet sheet' : List ℕ) (written' r : ℕ) : Type 0 where

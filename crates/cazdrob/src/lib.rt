@@ -1,11 +1,13 @@
 // The library's face for hosts: C functions that answer with document 01's numbers. include/cazdrob.h declares them. None asks
 // anything of its caller but what the types of its parameters say.
+use left_edge::Span;
 use refusals::Checked;
+use tracked::Routed;
 ghost use mathlib.Core.Path.{_≡_};
 ghost use Rattle.channel.specs.Distance.{amount};
 ghost use Rattle.soundness.specs.Check.{checkOf};
 ghost use Rattle.sheet.specs.Parts.{shapeOf};
-ghost use Rattle.cazdrob.specs.Host.{checkNumber, HostMeasures, HostSearches, HostMakes};
+ghost use Rattle.cazdrob.specs.Host.{checkNumber, HostMeasures, HostSearches, HostNumbers, HostTracks, HostMakes};
 
 // The number of the sheet's refusal; 0 for a sound sheet.
 #[no_mangle]
@@ -80,6 +82,43 @@ pub extern "C" fn cazdrob_search(
     let answer = search::search(s, columns, work);
     *density = wide(searched::density_of(answer));
     wide(searched::number_of(answer))
+}
+
+// Gives the nets of a clean assignment their tracks: 0 with the numbers of nets and tracks and a span for each net in front of the array,
+// or the number of a refusal with 0 nets and 0 tracks. With 14 comes the amount, with every other answer 0. The borrow checker covers no
+// function over a slice of structs, so this one is proved by a walk of its code, by hand.
+#[no_mangle]
+pub extern "C" fn cazdrob_tracks(
+    s: &[u8],
+    columns: &[u8],
+    spans: &mut [Span],
+    nets: &mut usize,
+    tracks: &mut u32,
+    amount: &mut i32,
+) -> u32
+    ensures { λ r. ⌜ HostTracks (now (s .entry)) (now (columns .entry)) (now (spans .entry)) (now (spans .exit))
+        (now (nets .exit)) (now (tracks .exit)) (now (amount .exit)) r ⌝ }
+{
+    let routed = tracks::route(s, columns, spans.len());
+    span_array::copy_spans(spans, routed);
+    put_answer(routed, nets, tracks, amount)
+}
+
+// Stores the numbers of an answer about tracks.
+fn put_answer(routed: Routed, nets: &mut usize, tracks: &mut u32, amount: &mut i32) -> u32
+    ensures { λ r. ⌜ HostNumbers (routed .answer) (now (nets .exit)) (now (tracks .exit)) (now (amount .exit)) r ⌝ }
+{
+    let answer = routed.answer;
+    *nets = tracked::count_of(answer);
+    *tracks = wide_tracks(tracked::tracks_of(answer));
+    *amount = wide_amount(tracked::amount_of(answer));
+    wide(tracked::number_of(answer))
+}
+
+fn wide_tracks(x: u16) -> u32
+    ensures { λ r. ⌜ r ≡ x ⌝ }
+{
+    x as u32
 }
 
 // Turns two sides of modules into the sheet of a channel of so many columns: 0 with the sheet and its length, or the number of a refusal

@@ -1,8 +1,9 @@
 //! The best pin assignment of a routing channel, on the proved library `libcazdrob.a`.
 //!
 //! A sheet describes the channel: its terminals in their fixed orders, the columns that each may take, the distances that neighbours
-//! keep. `docs/FORMAT.md` of the repository has the rules. [`sheet_of_modules`] makes one of standard cells and others that move whole.
-//! Every call has an answer for every content and length of what it is lent.
+//! keep. `docs/FORMAT.md` of the repository has the rules. [`sheet_of_modules`] makes one of standard cells and others that move whole;
+//! [`route`] gives the nets of an assignment their tracks where no column has pins of two. Every call has an answer for every content and
+//! length of what it is lent.
 //!
 //! Sheet A: three columns, the nets 1, 2 on top and 2, 1 at the bottom.
 //!
@@ -39,6 +40,8 @@ use std::fmt;
 
 /// The functions of `include/cazdrob.h`.
 mod sys {
+    use super::Span;
+
     extern "C" {
         pub fn cazdrob_check(sheet: *const u8, sheet_len: usize) -> u32;
         pub fn cazdrob_cells(sheet: *const u8, sheet_len: usize) -> usize;
@@ -59,6 +62,17 @@ mod sys {
             work: *mut u16,
             work_len: usize,
             density: *mut u32,
+        ) -> u32;
+        pub fn cazdrob_tracks(
+            sheet: *const u8,
+            sheet_len: usize,
+            columns: *const u8,
+            columns_len: usize,
+            spans: *mut Span,
+            spans_len: usize,
+            nets: *mut usize,
+            tracks: *mut u32,
+            amount: *mut i32,
         ) -> u32;
         pub fn cazdrob_modules(
             length: usize,
@@ -160,6 +174,99 @@ impl Searcher {
         let mut columns = vec![0; sheet.len() / 12 - 1];
         let density = self.search(sheet, &mut columns)?;
         Ok(Assignment { density, columns })
+    }
+}
+
+/// Enough records for the nets of every sound sheet.
+pub const NETS_MAX: usize = 128;
+
+/// A net of an assignment: the columns that it runs from and to, and its track.
+#[repr(C)]
+#[derive(Debug, Clone, Copy, Default, PartialEq, Eq)]
+pub struct Span {
+    /// The net.
+    pub net: u16,
+    /// The column of its leftmost pin, or 1 where it leaves the channel at the left.
+    pub left: u16,
+    /// The column of its rightmost pin, or L where it leaves the channel at the right.
+    pub right: u16,
+    /// Its track, from 1. It is 0 where the net crosses no column: a plain net with all its pins in one column takes no track.
+    pub track: u16,
+}
+
+/// The nets of a clean assignment with their tracks.
+#[derive(Debug, Clone, PartialEq, Eq)]
+pub struct Routing {
+    /// The number of tracks: the density of the assignment.
+    pub tracks: u32,
+    /// The nets of the sheet, by rising left end and, of equal left ends, by rising number.
+    pub spans: Vec<Span>,
+}
+
+/// Gives the nets of a clean assignment their tracks, exactly as many as its density. The column list is as in [`measure`]. Refused with
+/// 1 to 8, 12, 13, 14 or 18, and of several with the first in this order.
+///
+/// An assignment is clean where no column has pins of two nets. In the order of the spans each net that crosses a column gets the lowest
+/// track, from 1, on which none before it has a column in common with it, the ends included.
+///
+/// ```
+/// use cazdrob::{Module, Pin, Refusal, Span};
+///
+/// // six columns: nets 1, 2, 1 over 2, 3, 3, each pin in a column of its own
+/// let pin = |column: u8, net| Module { width: 1, edges: 1 << (column - 1), pins: vec![Pin { offset: 1, net }] };
+/// let sheet = cazdrob::sheet_of_modules(6, &[pin(1, 1), pin(2, 2), pin(4, 1)], &[pin(3, 2), pin(5, 3), pin(6, 3)])?;
+/// let routing = cazdrob::route(&sheet, &[1, 2, 4, 3, 5, 6])?;
+/// assert_eq!(routing.tracks, 2);
+/// let span = |net, left, right, track| Span { net, left, right, track };
+/// assert_eq!(routing.spans, [span(1, 1, 4, 1), span(2, 2, 3, 2), span(3, 5, 6, 1)]);
+///
+/// // net 9 over net 8 in one column
+/// let sheet = cazdrob::sheet_of_modules(6, &[pin(3, 9)], &[pin(3, 8)])?;
+/// assert_eq!(cazdrob::route(&sheet, &[3, 3]), Err(Refusal::TwoNets));
+/// # Ok::<(), Refusal>(())
+/// ```
+pub fn route(sheet: &[u8], columns: &[u8]) -> Result<Routing, Refusal> {
+    let mut spans = vec![Span::default(); NETS_MAX];
+    let Tracks { nets, tracks } = tracks(sheet, columns, &mut spans)?;
+    spans.truncate(nets);
+    Ok(Routing { tracks, spans })
+}
+
+/// How many nets got a record, and how many tracks they take.
+#[derive(Debug, Clone, Copy, PartialEq, Eq)]
+pub struct Tracks {
+    /// The nets of the sheet, as many as records were written.
+    pub nets: usize,
+    /// The number of tracks: the density of the assignment.
+    pub tracks: u32,
+}
+
+/// As [`route`], into lent records. Refused with 1 to 8, 12, 13, 14, 18 or, where there are fewer records than nets, 9, and of several with
+/// the first in this order.
+///
+/// The nets are the first records, as many as the result says. Everything else, and with a refusal the whole of it, is left as it was.
+pub fn tracks(sheet: &[u8], columns: &[u8], spans: &mut [Span]) -> Result<Tracks, Refusal> {
+    let (mut nets, mut tracks, mut amount) = (0, 0, 0);
+    // SAFETY: the pointers and lengths are those of slices, and Span is laid out as in C; `spans`, `nets`, `tracks` and `amount` are
+    // borrowed mutably and overlap nothing.
+    let number = unsafe {
+        sys::cazdrob_tracks(
+            sheet.as_ptr(),
+            sheet.len(),
+            columns.as_ptr(),
+            columns.len(),
+            spans.as_mut_ptr(),
+            spans.len(),
+            &mut nets,
+            &mut tracks,
+            &mut amount,
+        )
+    };
+    match answer(number, amount) {
+        Ok(()) => Ok(Tracks { nets, tracks }),
+        // the list is only read here
+        Err(Refusal::Columns) => Err(Refusal::SpanBuffer),
+        Err(refusal) => Err(refusal),
     }
 }
 
@@ -276,7 +383,7 @@ pub enum Refusal {
     Cells,
     /// 11: no assignment exists.
     NoAssignment,
-    /// 12: the list to measure is not p+q long.
+    /// 12: the column list is not p+q long.
     ListLength,
     /// 13: a listed column is not in its terminal's set.
     NotAllowed,
@@ -292,10 +399,14 @@ pub enum Refusal {
     Module,
     /// 17: a module's set names a left edge from which it does not fit the channel.
     Edge,
+    /// 9 of tracks: there are fewer records than nets.
+    SpanBuffer,
+    /// 18: a column has pins of two nets.
+    TwoNets,
 }
 
 impl Refusal {
-    /// The number of the refusal, 1 to 14, 16 or 17.
+    /// The number of the refusal, 1 to 14 or 16 to 18.
     pub fn number(self) -> u32 {
         match self {
             Refusal::Short => 1,
@@ -315,6 +426,8 @@ impl Refusal {
             Refusal::SheetBuffer => 9,
             Refusal::Module => 16,
             Refusal::Edge => 17,
+            Refusal::SpanBuffer => 9,
+            Refusal::TwoNets => 18,
         }
     }
 }
@@ -333,12 +446,14 @@ impl fmt::Display for Refusal {
             Refusal::Columns => "the column buffer is too short",
             Refusal::Cells => "the work buffer is too short",
             Refusal::NoAssignment => "no assignment exists",
-            Refusal::ListLength => "the list to measure is not p+q long",
+            Refusal::ListLength => "the column list is not p+q long",
             Refusal::NotAllowed => "a listed column is not in its terminal's set",
             Refusal::OutOfRange { .. } => "a distance is out of range",
             Refusal::SheetBuffer => "the sheet buffer is too short",
             Refusal::Module => "a module breaks its rule, or a side has more than 16 of them",
             Refusal::Edge => "a set names a left edge from which its module does not fit the channel",
+            Refusal::SpanBuffer => "there are fewer records than nets",
+            Refusal::TwoNets => "a column has pins of two nets",
         };
         write!(f, "refused {}: {why}", self.number())?;
         if let Refusal::OutOfRange { amount } = self {
@@ -374,7 +489,8 @@ fn answer(number: u32, amount: i32) -> Result<(), Refusal> {
         14 => Refusal::OutOfRange { amount },
         16 => Refusal::Module,
         17 => Refusal::Edge,
-        _ => unreachable!("the library returns 0 to 14, 16 or 17, not {number}"),
+        18 => Refusal::TwoNets,
+        _ => unreachable!("the library returns 0 to 14 or 16 to 18, not {number}"),
     })
 }
 

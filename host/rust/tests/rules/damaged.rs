@@ -17,6 +17,8 @@ fn every_call(draw: &mut Draw, sheet: Vec<u8>, seen: &mut Seen) {
     }
     let list: Vec<u8> = (0..terminals).map(|place| place as u8 + 1).collect();
     held.measure(draw, &list, seen);
+    let room = held.room(draw);
+    held.tracks(draw, &list, room, seen).ok();
 }
 
 fn put(sheet: &mut [u8], at: usize, field: usize) {
@@ -57,7 +59,7 @@ fn damage_trailer(draw: &mut Draw, sheet: &mut [u8]) {
     put(sheet, at, draw.of(&new));
 }
 
-fn damage(draw: &mut Draw, sheet: &mut Vec<u8>) {
+pub fn damage(draw: &mut Draw, sheet: &mut Vec<u8>) {
     let len = sheet.len();
     let records = len / 12 - usize::from(len >= 12);
     match draw.between(0, 15) {
@@ -99,7 +101,7 @@ fn one_fault_or_several() {
     seen.print("one fault or several");
     for number in 1..=8 {
         assert!(seen.check[number] > 5_000, "{number}");
-        assert!(seen.search[number] > 5_000 && seen.measure[number] > 5_000, "{number}");
+        assert!(seen.search[number] > 5_000 && seen.measure[number] > 5_000 && seen.tracks[number] > 5_000, "{number}");
     }
     assert!(seen.check[0] > 10_000);
 }

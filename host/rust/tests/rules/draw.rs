@@ -69,6 +69,10 @@ enum Sets {
     Mixed,
 }
 
+impl Sets {
+    const ANY: [Sets; 6] = [Sets::All, Sets::Most, Sets::Half, Sets::Stretch, Sets::Few, Sets::Mixed];
+}
+
 /// How the distances of a channel are drawn.
 #[derive(Clone, Copy)]
 enum Ranges {
@@ -76,6 +80,10 @@ enum Ranges {
     Near,
     Exact,
     Mixed,
+}
+
+impl Ranges {
+    const ANY: [Ranges; 6] = [Ranges::Free, Ranges::Free, Ranges::Near, Ranges::Exact, Ranges::Mixed, Ranges::Mixed];
 }
 
 /// Which nets a channel has: all of one kind, of all leaving kinds, or of all kinds.
@@ -89,16 +97,20 @@ enum Nets {
     Mixed,
 }
 
-/// A drawn sound channel with the given length and counts. Three of four are drawn around a column list, which is then an assignment,
-/// and has it beside it.
-pub fn channel(draw: &mut Draw, length: usize, p: usize, q: usize) -> (Channel, Option<Vec<u8>>) {
-    let sets = draw.of(&[Sets::All, Sets::Most, Sets::Half, Sets::Stretch, Sets::Few, Sets::Mixed]);
-    let ranges = draw.of(&[Ranges::Free, Ranges::Free, Ranges::Near, Ranges::Exact, Ranges::Mixed, Ranges::Mixed]);
-    let nets = match draw.between(0, 10) {
+fn nets(draw: &mut Draw) -> Nets {
+    match draw.between(0, 10) {
         0..=3 => Nets::Plain,
         4..=6 => Nets::Mixed,
         _ => draw.of(&[Nets::Left, Nets::Right, Nets::Both, Nets::Leaving]),
-    };
+    }
+}
+
+/// A drawn sound channel with the given length and counts. Three of four are drawn around a column list, which is then an assignment,
+/// and has it beside it.
+pub fn channel(draw: &mut Draw, length: usize, p: usize, q: usize) -> (Channel, Option<Vec<u8>>) {
+    let sets = draw.of(&Sets::ANY);
+    let ranges = draw.of(&Ranges::ANY);
+    let nets = nets(draw);
     let around = p.max(q) <= length && !draw.once_in(4);
     let mut pool: Vec<u16> = (0..draw.between(1, p + q + 1)).map(|_| net(draw, nets)).collect();
     if draw.once_in(3) {
@@ -120,6 +132,48 @@ pub fn channel(draw: &mut Draw, length: usize, p: usize, q: usize) -> (Channel, 
     let (top, top_columns) = side(draw, p);
     let (bottom, bottom_columns) = side(draw, q);
     let list = top_columns.zip(bottom_columns).map(|(t, b)| [t, b].concat());
+    (Channel { length, top, bottom }, list)
+}
+
+/// A drawn sound channel of this length around an assignment in which no column has pins of two nets, and that assignment.
+pub fn clean(draw: &mut Draw, length: usize) -> (Channel, Vec<u8>) {
+    let (sets, ranges, nets) = (draw.of(&Sets::ANY), draw.of(&Ranges::ANY), nets(draw));
+    // few nets or many, or one for each column
+    let one_each = draw.once_in(3);
+    let count = if one_each { length } else { draw.of(&[1, 3, length / 2 + 1, length]) };
+    let mut pool: Vec<u16> = Vec::new();
+    while pool.len() < count {
+        let net = net(draw, nets);
+        if !(one_each && pool.contains(&net)) {
+            pool.push(net);
+        }
+    }
+    // of eight columns so many are empty, the others have a top pin, a bottom pin or both
+    let empty = draw.of(&[0, 0, 1, 2, 4, 7, 8]);
+    let letters = draw.of(&[&[1][..], &[2], &[3], &[1, 2], &[1, 2], &[1, 2, 3], &[1, 2, 3], &[1, 2, 3, 3, 3]]);
+    let (mut top, mut bottom) = (vec![], vec![]);
+    for column in 1..=length {
+        if draw.between(1, 8) > empty {
+            let letter = draw.of(letters);
+            let net = if one_each { pool[column - 1] } else { draw.of(&pool) };
+            if letter != 2 {
+                top.push((net, column));
+            }
+            if letter != 1 {
+                bottom.push((net, column));
+            }
+        }
+    }
+    let list = [&top[..], &bottom].concat().into_iter().map(|(_, column)| column as u8).collect();
+    let [top, bottom] = [top, bottom].map(|pins| {
+        let mut before = None;
+        let terminal = |(net, column): (u16, usize)| {
+            let (least, greatest) = before.map_or((0, 0), |before| range(draw, ranges, Some(column - before)));
+            before = Some(column);
+            Terminal { net, least, greatest, set: set(draw, sets, length, Some(column)) }
+        };
+        pins.into_iter().map(terminal).collect()
+    });
     (Channel { length, top, bottom }, list)
 }
 

@@ -7,7 +7,7 @@ use crate::sound::every_call;
 use cazdrob::{Assignment, Searcher};
 
 /// The first and last nets of the kinds, but for net 1, and whether they leave at the left and at the right.
-const BOUNDS: [(u16, bool, bool); 7] = [
+pub const BOUNDS: [(u16, bool, bool); 7] = [
     (60_000, false, false),
     (60_001, true, false),
     (62_000, true, false),
@@ -38,7 +38,7 @@ fn all_plain(channel: &Channel) -> Channel {
 }
 
 /// Nets with the columns that their pins are held to, and the list of these.
-fn held(length: u8, top: &[(u16, u8)], bottom: &[(u16, u8)]) -> (Channel, Vec<u8>) {
+pub fn held(length: u8, top: &[(u16, u8)], bottom: &[(u16, u8)]) -> (Channel, Vec<u8>) {
     let [top_side, bottom_side] = [top, bottom].map(|pins| {
         let (nets, sets): (Vec<u16>, Vec<u64>) = pins.iter().map(|(net, column)| (*net, 1 << (column - 1))).unzip();
         side(&nets, &sets, 1, 255)

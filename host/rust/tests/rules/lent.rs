@@ -1,8 +1,8 @@
 //! Calls of the C functions on buffers out of the middle of longer ones full of garbage, each held to what the reference says, to the
 //! last byte and cell of the longer buffers.
 use crate::draw::Draw;
-use crate::reference::{read, Channel, Refused};
-use cazdrob::{Refusal, Searcher};
+use crate::reference::{read, Channel, Record, Refused};
+use cazdrob::{Refusal, Routing, Searcher, Span, Tracks};
 
 extern "C" {
     fn cazdrob_check(sheet: *const u8, sheet_len: usize) -> u32;
@@ -23,6 +23,17 @@ extern "C" {
         work: *mut u16,
         work_len: usize,
         density: *mut u32,
+    ) -> u32;
+    fn cazdrob_tracks(
+        sheet: *const u8,
+        sheet_len: usize,
+        columns: *const u8,
+        columns_len: usize,
+        spans: *mut Record,
+        spans_len: usize,
+        nets: *mut usize,
+        tracks: *mut u32,
+        amount: *mut i32,
     ) -> u32;
 }
 
@@ -67,15 +78,17 @@ pub struct Seen {
     pub check: [u32; 15],
     pub measure: [u32; 15],
     pub search: [u32; 15],
+    pub tracks: [u32; 19],
     pub bad: Bad,
 }
 
 impl Seen {
     pub fn print(&self, test: &str) {
-        println!("{test}: times that each number 0 to 14 was returned");
-        println!("  check   {:?}", self.check);
-        println!("  measure {:?}", self.measure);
-        println!("  search  {:?}", self.search);
+        println!("{test}: times that each number was returned, from 0 on");
+        let calls = [("check", &self.check[..]), ("measure", &self.measure), ("search", &self.search), ("tracks", &self.tracks)];
+        for (call, times) in calls.into_iter().filter(|(_, times)| times.iter().any(|times| *times > 0)) {
+            println!("  {call:<7} {times:?}");
+        }
         if self.measure[14] > 0 {
             println!("  of 14   {:?}", self.bad);
         }
@@ -111,7 +124,12 @@ impl Bad {
     }
 }
 
-/// What the wrapper says of a refused measurement, as the reference says it.
+/// A record as the wrapper has it.
+pub fn span([net, left, right, track]: Record) -> Span {
+    Span { net, left, right, track }
+}
+
+/// What the wrapper says of a refused measurement, or of tracks that are refused, as the reference says it.
 pub fn refused(refusal: Refusal) -> Refused {
     let amount = if let Refusal::OutOfRange { amount } = refusal { amount } else { 0 };
     Refused { number: refusal.number(), amount }
@@ -161,6 +179,10 @@ impl Held {
         self.read.as_ref().map_or(0, Channel::cells)
     }
 
+    pub fn nets(&self) -> usize {
+        self.read.as_ref().map_or(0, |channel| channel.nets().len())
+    }
+
     /// Holds the check and the number of cells.
     pub fn check(&self, draw: &mut Draw, seen: &mut Seen) {
         let mut lent = Lent::around(draw, &self.sheet, |w| w as u8);
@@ -205,6 +227,71 @@ impl Held {
         if let (14, Ok(channel)) = (number, &self.read) {
             seen.bad.count(channel.amounts(list));
         }
+    }
+
+    /// Holds the tracks of a list on an array of so many records, and gives the answer.
+    pub fn tracks(&self, draw: &mut Draw, list: &[u8], room: usize, seen: &mut Seen) -> Result<Vec<Record>, Refused> {
+        let answer = |room| self.read.as_ref().map_err(|number| Refused::from(*number)).and_then(|channel| channel.tracks(list, room));
+        let tracks_of = |records: &[Record]| records.iter().map(|[.., track]| u32::from(*track)).max().unwrap_or(0);
+        let wanted = answer(room);
+        let (records, Refused { number: wanted_number, amount: wanted_amount }) = match &wanted {
+            Ok(records) => (&records[..], Refused::from(0)),
+            Err(refused) => (&[][..], *refused),
+        };
+        let wanted_tracks = tracks_of(records);
+
+        let mut sheet = Lent::around(draw, &self.sheet, |w| w as u8);
+        let mut columns = Lent::around(draw, list, |w| w as u8);
+        let mut spans = Lent::garbage(draw, room, |w| [w as u16, (w >> 16) as u16, (w >> 32) as u16, (w >> 48) as u16]);
+        let mut nets = Lent::garbage(draw, 1, |w| w as usize);
+        let mut tracks = Lent::garbage(draw, 1, |w| w as u32);
+        let mut amount = Lent::garbage(draw, 1, |w| w as i32);
+        let before = (sheet.clone(), columns.clone(), spans.clone(), nets.clone(), tracks.clone(), amount.clone());
+        let number = {
+            let (sheet, columns, spans) = (sheet.lend(), columns.lend(), spans.lend());
+            let (nets, tracks, amount) = (nets.lend().as_mut_ptr(), tracks.lend().as_mut_ptr(), amount.lend().as_mut_ptr());
+            unsafe {
+                cazdrob_tracks(
+                    sheet.as_ptr(),
+                    sheet.len(),
+                    columns.as_ptr(),
+                    columns.len(),
+                    spans.as_mut_ptr(),
+                    spans.len(),
+                    nets,
+                    tracks,
+                    amount,
+                )
+            }
+        };
+        let what = || format!("tracks of {list:?} on {:?} with {room} records", self.sheet);
+        let got = (number, nets.lend()[0], tracks.lend()[0], amount.lend()[0]);
+        assert_eq!(got, (wanted_number, records.len(), wanted_tracks, wanted_amount), "{}", what());
+        assert_eq!(spans.lend()[..records.len()], *records, "{}", what());
+        sheet.hold(&before.0, [].into_iter(), "the sheet");
+        columns.hold(&before.1, [].into_iter(), "the list");
+        spans.hold(&before.2, records.iter().copied(), "the records");
+        nets.hold(&before.3, [records.len()].into_iter(), "the number of nets");
+        tracks.hold(&before.4, [wanted_tracks].into_iter(), "the number of tracks");
+        amount.hold(&before.5, [wanted_amount].into_iter(), "the amount");
+
+        let mut kept = before.2.clone();
+        let mut lent: Vec<Span> = kept.lend().iter().copied().map(span).collect();
+        let wrapped = cazdrob::tracks(sheet.lend(), columns.lend(), &mut lent);
+        assert_eq!(wrapped.map_err(refused), wanted.as_ref().map_err(|r| *r).map(|r| Tracks { nets: r.len(), tracks: wanted_tracks }));
+        assert_eq!(wrapped == Err(Refusal::SpanBuffer), number == 9);
+        assert!(lent.into_iter().eq(spans.lend().iter().copied().map(span)), "the wrapper's records, {}", what());
+        let routed = if number == 9 { answer(cazdrob::NETS_MAX) } else { wanted.clone() };
+        let routed = routed.map(|r| Routing { tracks: tracks_of(&r), spans: r.into_iter().map(span).collect() });
+        assert_eq!(cazdrob::route(sheet.lend(), columns.lend()).map_err(refused), routed);
+        seen.tracks[number as usize] += 1;
+        wanted
+    }
+
+    /// A number of records: as many as nets, one fewer, two more, none, or more than enough for every sheet.
+    pub fn room(&self, draw: &mut Draw) -> usize {
+        let nets = self.nets();
+        draw.of(&[nets, nets, nets.saturating_sub(1), nets + 2, 0, 130])
     }
 
     /// Holds a search on buffers of these lengths.

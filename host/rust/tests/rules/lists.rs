@@ -1,4 +1,4 @@
-//! Measured column lists: assignments, lists that are nearly one, any bytes, wrong lengths.
+//! Column lists, measured and with their tracks: assignments, lists that are nearly one, any bytes, wrong lengths.
 use crate::draw::{channel_up_to, sheet_of, Draw};
 use crate::lent::{Bad, Held, Seen};
 use crate::reference::Channel;
@@ -10,6 +10,13 @@ fn allowed(draw: &mut Draw, channel: &Channel, at: usize) -> Option<u8> {
     (!columns.is_empty()).then(|| draw.of(&columns))
 }
 
+/// Holds the measurement of a list and its tracks.
+fn hold(draw: &mut Draw, held: &Held, list: &[u8], seen: &mut Seen) {
+    held.measure(draw, list, seen);
+    let room = held.room(draw);
+    held.tracks(draw, list, room, seen).ok();
+}
+
 fn measured(test: &str, seed: u64, sheets: usize, lists: usize, length: usize, p: usize, q: usize) -> Seen {
     let mut draw = Draw::new(seed);
     let mut seen = Seen::default();
@@ -19,7 +26,7 @@ fn measured(test: &str, seed: u64, sheets: usize, lists: usize, length: usize, p
         let terminals = channel.terminals();
         // without an assignment at hand, rising columns
         let near = list.unwrap_or_else(|| (0..terminals).map(|place| (place % channel.length) as u8 + 1).collect());
-        held.measure(&mut draw, &near, &mut seen);
+        hold(&mut draw, &held, &near, &mut seen);
         for _ in 0..lists {
             let mut list = near.clone();
             match draw.between(0, 7) {
@@ -47,7 +54,7 @@ fn measured(test: &str, seed: u64, sheets: usize, lists: usize, length: usize, p
                     list = (0..draw.between(0, terminals + 3)).map(|_| draw.between(1, channel.length) as u8).collect();
                 }
             }
-            held.measure(&mut draw, &list, &mut seen);
+            hold(&mut draw, &held, &list, &mut seen);
         }
     }
     seen.print(test);
@@ -94,7 +101,7 @@ fn every_list_of_a_small_sheet() {
                 column as u8
             };
             let list: Vec<u8> = (0..channel.terminals()).map(next).collect();
-            held.measure(&mut draw, &list, &mut seen);
+            hold(&mut draw, &held, &list, &mut seen);
         }
     }
     seen.print("every list of a small sheet");
@@ -112,13 +119,13 @@ fn every_length_and_every_byte() {
         let held = Held::new(sheet_of(&channel, draw.once_in(2)));
         let terminals = channel.terminals();
         for length in 0..=terminals + 20 {
-            held.measure(&mut draw, &vec![1; length], &mut seen);
+            hold(&mut draw, &held, &vec![1; length], &mut seen);
         }
         for at in 0..terminals {
             let mut list = list.clone().unwrap_or_else(|| vec![1; terminals]);
             for byte in 0..=255 {
                 list[at] = byte;
-                held.measure(&mut draw, &list, &mut seen);
+                hold(&mut draw, &held, &list, &mut seen);
             }
         }
     }

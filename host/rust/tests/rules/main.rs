@@ -16,4 +16,5 @@ mod reference;
 mod sides;
 mod sound;
 mod threads;
+mod tracks;
 mod wrapper;

@@ -1,5 +1,5 @@
-//! The rules in plain Rust: reading and refusing a sheet, the density of a column list, the best assignment. The dynamic programme is that
-//! of "Optimal channel pin assignment", section 5.1, with densities by definition. Nothing is shared with the library.
+//! The rules in plain Rust: reading and refusing a sheet, the density of a column list, its tracks, the best assignment. The dynamic
+//! programme is that of "Optimal channel pin assignment", section 5.1, with densities by definition. Nothing is shared with the library.
 
 #[derive(Debug, Clone, PartialEq, Eq)]
 pub struct Terminal {
@@ -16,7 +16,10 @@ pub struct Channel {
     pub bottom: Vec<Terminal>,
 }
 
-/// The answer of a refused measurement.
+/// A net, its left end, its right end and its track.
+pub type Record = [u16; 4];
+
+/// The answer of a refused measurement, or of tracks that are refused.
 #[derive(Debug, Clone, Copy, PartialEq, Eq)]
 pub struct Refused {
     pub number: u32,
@@ -90,7 +93,7 @@ pub fn read(sheet: &[u8]) -> Result<Channel, u32> {
 }
 
 /// Whether the terminal's set has the column.
-fn names(terminal: &Terminal, column: u8) -> bool {
+pub fn names(terminal: &Terminal, column: u8) -> bool {
     (1..=64).contains(&column) && terminal.set & (1 << (column - 1)) != 0
 }
 
@@ -128,6 +131,12 @@ fn crosses(net: u16, up_to: bool, from: bool, elsewhere: bool) -> bool {
     (left || up_to) && (right || from) && (left || right || elsewhere)
 }
 
+/// Whether a net with pins in these columns crosses a column.
+pub fn crosses_column(net: u16, pins: &[usize], column: usize) -> bool {
+    let [up_to, from] = [pins.iter().any(|pin| *pin <= column), pins.iter().any(|pin| *pin >= column)];
+    crosses(net, up_to, from, pins.iter().any(|pin| *pin != column))
+}
+
 impl Channel {
     pub fn terminals(&self) -> usize {
         self.top.len() + self.bottom.len()
@@ -146,21 +155,55 @@ impl Channel {
         nets
     }
 
+    /// The columns of a net's pins.
+    pub fn pins(&self, net: u16, list: &[u8]) -> Vec<usize> {
+        let terminals = self.top.iter().chain(&self.bottom);
+        terminals.zip(list).filter(|(t, _)| t.net == net).map(|(_, column)| usize::from(*column)).collect()
+    }
+
     /// The density of a column list: the greatest number of nets that cross a column.
     pub fn density(&self, list: &[u8]) -> u32 {
-        let pins_of = |net| -> Vec<usize> {
-            let terminals = self.top.iter().chain(&self.bottom);
-            terminals.zip(list).filter(|(t, _)| t.net == net).map(|(_, column)| usize::from(*column)).collect()
-        };
-        let nets: Vec<(u16, Vec<usize>)> = self.nets().into_iter().map(|net| (net, pins_of(net))).collect();
-        let count = |column: usize| {
-            let crosses_it = |(net, pins): &&(u16, Vec<usize>)| {
-                let [up_to, from] = [pins.iter().any(|pin| *pin <= column), pins.iter().any(|pin| *pin >= column)];
-                crosses(*net, up_to, from, pins.iter().any(|pin| *pin != column))
-            };
-            nets.iter().filter(crosses_it).count() as u32
-        };
+        let nets: Vec<(u16, Vec<usize>)> = self.nets().into_iter().map(|net| (net, self.pins(net, list))).collect();
+        let count = |column: usize| nets.iter().filter(|(net, pins)| crosses_column(*net, pins, column)).count() as u32;
         (1..=self.length).map(count).max().unwrap()
+    }
+
+    /// The columns in which a top pin stands over a bottom pin of another net.
+    pub fn two_nets(&self, list: &[u8]) -> Vec<u8> {
+        let (top, bottom) = list.split_at(self.top.len());
+        let over = |column: u8, net: u16| self.bottom.iter().zip(bottom).any(|(b, at)| *at == column && b.net != net);
+        self.top.iter().zip(top).filter(|(t, column)| over(**column, t.net)).map(|(_, column)| *column).collect()
+    }
+
+    /// The records of the nets where there is room for so many, or 12, 13, 14, 18 or 9.
+    pub fn tracks(&self, list: &[u8], room: usize) -> Result<Vec<Record>, Refused> {
+        self.measure(list)?;
+        if !self.two_nets(list).is_empty() {
+            return Err(18.into());
+        }
+        let mut nets = self.nets();
+        if room < nets.len() {
+            return Err(9.into());
+        }
+        nets.sort_by_key(|net| (self.ends(*net, list).0, *net));
+        let mut records: Vec<Record> = Vec::new();
+        for net in nets {
+            let (pins, (left, right)) = (self.pins(net, list), self.ends(net, list));
+            let free = |track: &u16| records.iter().all(|[_, from, to, taken]| taken != track || *to < left || right < *from);
+            let crosses_some = (1..=self.length).any(|column| crosses_column(net, &pins, column));
+            let track = if crosses_some { (1..).find(free).unwrap() } else { 0 };
+            records.push([net, left, right, track]);
+        }
+        Ok(records)
+    }
+
+    /// The left and the right end of a net.
+    fn ends(&self, net: u16, list: &[u8]) -> (u16, u16) {
+        let pins = self.pins(net, list);
+        let (leaves_left, leaves_right) = leaves(net);
+        let left = if leaves_left { 1 } else { *pins.iter().min().unwrap() };
+        let right = if leaves_right { self.length } else { *pins.iter().max().unwrap() };
+        (left as u16, right as u16)
     }
 
     /// The amounts of the top pairs and of the bottom pairs, by place; the list has a column for each terminal.

@@ -17,8 +17,11 @@ pub fn every_call(draw: &mut Draw, channel: &Channel, list: Option<Vec<u8>>, sea
     held.wrapped(draw);
     if let Some((least, best)) = held.best().clone() {
         held.measure(draw, &best, seen);
+        let room = held.room(draw);
+        held.tracks(draw, &best, room, seen).ok();
         if let Some(list) = list {
             held.measure(draw, &list, seen);
+            held.tracks(draw, &list, room, seen).ok();
             assert!(channel.measure(&list).is_ok_and(|density| density >= least));
         }
     } else {

@@ -7,7 +7,7 @@ fn refusals_have_their_numbers() {
     use Refusal::*;
     let out = OutOfRange { amount: 1 };
     let all = [Short, Mark, Length, Count, Layout, Net, Distance, Beyond, Columns, Cells, NoAssignment, ListLength, NotAllowed, out];
-    for (refusal, number) in all.into_iter().zip(1..).chain([(SheetBuffer, 9), (Module, 16), (Edge, 17)]) {
+    for (refusal, number) in all.into_iter().zip(1..).chain([(SheetBuffer, 9), (SpanBuffer, 9), (Module, 16), (Edge, 17), (TwoNets, 18)]) {
         assert_eq!(refusal.number(), number);
         assert!(refusal.to_string().starts_with(&format!("refused {number}: ")));
     }
