@@ -1,4 +1,4 @@
--- The left-edge method: intervals on tracks (document 02, T-04; document 003, section 4.1).
+-- The left-edge method: intervals on tracks (document 02, T-04; document 003, section 4.4).
 -- Assumes nothing.
 use Prim.Native.Nat.{ℕ, suc, max}
 use mathlib.Core.List.{List, [], _∷_}
