@@ -1,6 +1,6 @@
 -- Laws of the counting: one addition for each net gives the crossings of every column.
 -- Assumes nothing.
-use Prim.Native.Nat.{ℕ, zero, suc, _+_, _-_, _≤_, _<_, max}
+use Prim.Native.Nat.{ℕ, suc, _+_, _-_, _≤_, _<_, max}
 use mathlib.Core.Path.{_≡_, refl, sym, _∙_, ap}
 use mathlib.Core.List.{List, [], _∷_}
 use mathlib.Core.Bool.{Bool, true, false, cond, _&&_}
@@ -17,7 +17,7 @@ use Rattle.channel.proofs.Spans.{spans-from}
 use Rattle.channel.specs.Spans.{sumLast, leftmost, rightmost}
 use Rattle.ends.specs.declared.Ends.{Ends}
 use Rattle.ends.specs.Ends.{pinsOf, endsOf}
-use Rattle.nets.proofs.Nets.{drop-next}
+use Rattle.nets.proofs.Nets.{drop-next, getD-zeros}
 use Rattle.density.specs.Counted.{netSpans, countedAt, Added, Small, within}
 
 -- the crossings of a column: one net more
@@ -114,11 +114,6 @@ abbrev pub Counted : List ℕ → List ℕ → ℕ → List ℕ → Type 0
 Counted ns cs i counts = (c : ℕ) → getD counts c 0 + sumLast (netSpans (pinsOf ns cs) c) (drop i ns) ≡ countedAt ns cs c
 
 -- at first every count is 0
-getD-zeros : (n c : ℕ) → _≡_ {A = ℕ} (getD (replicate n 0) c 0) 0
-getD-zeros zero c = refl
-getD-zeros (suc n) zero = refl
-getD-zeros (suc n) (suc c) = getD-zeros n c
-
 pub counted-none : (ns cs : List ℕ) (n : ℕ) (counts : List ℕ) → counts ≡ replicate n 0 → Counted ns cs 0 counts
 unfolding countedAt
 counted-none ns cs n counts e c = rw (e, getD-zeros n c, zero-add)

@@ -1,12 +1,12 @@
 -- Laws of the nets of a sheet's terminals, one after the other.
 -- Assumes nothing.
-use Prim.Native.Nat.{ℕ, _+_, _-_, _≤_, _<_}
-use mathlib.Core.Path.{_≡_, sym, _∙_, ap}
+use Prim.Native.Nat.{ℕ, zero, suc, _+_, _-_, _≤_, _<_}
+use mathlib.Core.Path.{_≡_, refl, sym, _∙_, ap}
 use mathlib.Core.List.{List, _∷_, _++_, append-nil, map-append}
 use mathlib.Core.Bool.{Bool, _||_}
 use native.Mathlib.Omega.{arith}
 use native.Mathlib.Numerals.{add-one}
-use lib.ListN.{length, getD, take, drop, set, drop-of-length-le, length-map, length-append, length-drop, List·getD-map}
+use lib.ListN.{length, getD, take, drop, set, replicate, drop-of-length-le, length-map, length-append, length-drop, List·getD-map}
 use lib.Seq.{drop-cons, take-suc, take-suc-set, take-all, take-at}
 use Rattle.channel.specs.Sheet.{Terminal, noTerminal}
 use Rattle.channel.specs.Density.{any}
@@ -18,6 +18,12 @@ use Rattle.format.specs.Parts.{terminalsIn}
 -- the first of what is left of a list, and what stands behind it
 pub drop-next : {A : Type 0} (xs : List A) (i : ℕ) (d : A) → i < length xs → drop i xs ≡ getD xs i d ∷ drop (i + 1) xs
 drop-next xs i d h = rw add-one (drop-cons xs i d h)
+
+-- a list of zeros, at each place and behind the last
+pub getD-zeros : (n i : ℕ) → _≡_ {A = ℕ} (getD (replicate n 0) i 0) 0
+getD-zeros zero i = refl
+getD-zeros (suc n) zero = refl
+getD-zeros (suc n) (suc i) = getD-zeros n i
 
 -- whether a number is among those that are left
 pub any-more : (f : ℕ → Bool) (ns : List ℕ) (i : ℕ) → i < length ns → any f (drop i ns) ≡ (f (getD ns i 0) || any f (drop (i + 1) ns))

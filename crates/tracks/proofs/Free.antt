@@ -1,6 +1,6 @@
 -- The lowest free track, where an array holds how far right each track is used: 0 where it is not used yet.
 -- Assumes nothing.
-use Prim.Native.Nat.{ℕ, zero, suc, _+_, _≤_, _<_}
+use Prim.Native.Nat.{ℕ, suc, _+_, _≤_, _<_}
 use native.Mathlib.Omega.{arith}
 use mathlib.Core.Path.{_≡_, refl, sym, ap, _∙_}
 use mathlib.Core.List.{List, [], _∷_}
@@ -8,7 +8,7 @@ use mathlib.Core.Bool.{Bool, true, false, cond}
 use lib.ListN.{length, getD, drop, set, replicate, length-set}
 use lib.Dec.{ltb}
 use borrow.Author.Tests.{ltb-true, ltb-false, lt-ltb, le-ltb, ne-eqb}
-use Rattle.nets.proofs.Nets.{drop-next}
+use Rattle.nets.proofs.Nets.{drop-next, getD-zeros}
 use Rattle.left_edge.specs.declared.Interval.{Interval}
 use Rattle.left_edge.specs.Lists.{Each}
 use Rattle.left_edge.specs.Method.{passed, place, trackOn, step, leftEdgeFrom, leftEdge}
@@ -92,14 +92,9 @@ edge-same es fs (x ∷ xs) same h =
     let next : Same (step es x) (step fs x) = λ k. step-at es x k ∙ rw (track, same k) (sym (step-at fs x k)) in
     rw (track, edge-same (step es x) (step fs x) xs next (h .1))
 
-zeros : (n k : ℕ) → _≡_ {A = ℕ} (getD (replicate n 0) k 0) 0
-zeros zero k = refl
-zeros (suc n) zero = refl
-zeros (suc n) (suc k) = zeros n k
-
 pub unused-zeros : (n : ℕ) → Unused 0 (replicate n 0)
-unused-zeros n k h = zeros n k
+unused-zeros n k h = getD-zeros n k
 
 pub edge-zeros :
     (n : ℕ) (xs : List Interval) → Each (λ (x : Interval). 1 ≤ x .left) xs → leftEdgeFrom (replicate n 0) xs ≡ leftEdge xs
-edge-zeros n xs = edge-same (replicate n 0) [] xs (zeros n)
+edge-zeros n xs = edge-same (replicate n 0) [] xs (getD-zeros n)

@@ -1,6 +1,6 @@
 -- The scan of the pins for two nets in one column, with an array of the net last seen in each column.
 -- Assumes nothing.
-use Prim.Native.Nat.{ℕ, zero, suc, _+_, _<_}
+use Prim.Native.Nat.{ℕ, _+_, _<_}
 use native.Mathlib.Omega.{arith}
 use native.Mathlib.Decide.{ℕ-discrete}
 use mathlib.Core.Path.{_≡_, refl, sym, ap, _∙_}
@@ -11,7 +11,7 @@ use lib.Seq.{getD-set-same, getD-set-other}
 use lib.Dec.{eqb}
 use borrow.Author.Tests.{eqb-true, eqb-false, eq-eqb, ne-eqb}
 use Rattle.channel.specs.Density.{any, Pin}
-use Rattle.nets.proofs.Nets.{drop-next}
+use Rattle.nets.proofs.Nets.{drop-next, getD-zeros}
 use Rattle.ends.specs.Ends.{pinsOf}
 use Rattle.left_edge.specs.Lists.{Each}
 use Rattle.left_edge.specs.Spans.{differ, twoNets}
@@ -92,14 +92,9 @@ comes-exactly seen long (p ∷ ps) h =
         (any-or _ (hit seen) (differ p) ps (each-all _ ps (hit-next seen long p (h .0) e)))
         ∙ or-assoc (any (hit seen) ps) (any (differ p) ps) (twoNets ps)
 
-zeros : (n k : ℕ) → _≡_ {A = ℕ} (getD (replicate n 0) k 0) 0
-zeros zero k = refl
-zeros (suc n) zero = refl
-zeros (suc n) (suc k) = zeros n k
-
 none-hit : (ps : List Pin) → any (hit (replicate 256 0)) ps ≡ false
 none-hit [] = refl
-none-hit (p ∷ ps) = rw (zeros 256 (p .column)) (none-hit ps)
+none-hit (p ∷ ps) = rw (getD-zeros 256 (p .column)) (none-hit ps)
 
 -- at first nothing was seen
 pub comes-first : (ps : List Pin) → Each Column ps → comes (replicate 256 0) ps ≡ twoNets ps
