@@ -1,11 +1,11 @@
 -- Which answer about tracks is due.
 -- Assumes nothing.
 use Prim.Native.Nat.{ℕ, _≤_, _<_}
-use mathlib.Core.Path.{_≡_, refl, sym, ap, _∙_}
-use mathlib.Core.List.{List, map}
+use mathlib.Core.Path.{_≡_, sym, ap, _∙_}
+use mathlib.Core.List.{List, _++_, map}
 use mathlib.Core.Bool.{true, false}
 use native.Mathlib.Omega.{arith}
-use lib.ListN.{length, take, length-map}
+use lib.ListN.{length, drop, length-map}
 use lib.Seq.{take-length}
 use borrow.Author.Tests.{lt-ltb, le-ltb}
 use Rattle.channel.specs.Density.{Pin, distinct}
@@ -22,23 +22,23 @@ use Rattle.order.proofs.Pins.{pins-of-inside}
 use Rattle.order.proofs.Keys.{Number, intervals-ordered, keys-begin}
 use Rattle.tracked.specs.declared.Tracked.the-variants.{Tracks, TwoNets, SpanBuffer}
 use Rattle.tracked.specs.declared.Routed.{Routed}
-use Rattle.tracks.specs.Answer.{answerFor, Gives}
+use Rattle.tracks.specs.Answer.{answerFor, noSpans, Gives}
 
 module _ (ps : List Pin) (room : ℕ) (xs : List Span) (r : Routed) where
-  pub gives-two-nets : twoNets ps ≡ true → r .answer ≡ TwoNets → Gives (answerFor ps room xs) xs r
+  pub gives-two-nets : twoNets ps ≡ true → (r .answer ≡ TwoNets) × (r .spans ≡ noSpans) → Gives (answerFor ps room xs) xs r
   unfolding answerFor
-  gives-two-nets two e = rw two (e, refl)
+  gives-two-nets two e = rw two e
 
   module _ (one : twoNets ps ≡ false) where
-    pub gives-short : room < length xs → r .answer ≡ SpanBuffer → Gives (answerFor ps room xs) xs r
+    pub gives-short : room < length xs → (r .answer ≡ SpanBuffer) × (r .spans ≡ noSpans) → Gives (answerFor ps room xs) xs r
     unfolding answerFor
-    gives-short h e = rw (one, lt-ltb room (length xs) h) (e, refl)
+    gives-short h e = rw (one, lt-ltb room (length xs) h) e
 
     pub gives-tracks :
-        length xs ≤ room → r .answer ≡ Tracks (length xs) (greatest xs) → take (length xs) (r .spans) ≡ xs
+        length xs ≤ room → r .answer ≡ Tracks (length xs) (greatest xs) → r .spans ≡ xs ++ drop (length xs) noSpans
         → Gives (answerFor ps room xs) xs r
     unfolding answerFor
-    gives-tracks h e spans = rw (one, le-ltb room (length xs) h) (e, spans ∙ sym (take-length xs))
+    gives-tracks h e spans = rw (one, le-ltb room (length xs) h) (e, rw (take-length xs) spans)
 
 -- the keys of the nets in order, and the spans that they stand for
 module _ (l : ℕ) (ns cs : List ℕ) (columns : Columns ns cs l) (numbers : Each Number ns) where

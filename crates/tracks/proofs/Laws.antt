@@ -6,6 +6,7 @@ use mathlib.Core.Path.{_≡_, refl, sym, ap, _∙_}
 use mathlib.Core.List.{List, _++_}
 use mathlib.Core.Bool.{Bool, true, false, cond}
 use lib.ListN.{length, take, drop, length-take}
+use lib.Seq.{length-take-le, take-at}
 use lib.Dec.{ltb}
 use borrow.Author.Tests.{ltb-false}
 use Rattle.channel.specs.Sheet.{Sheet}
@@ -21,7 +22,7 @@ use Rattle.tracked.specs.declared.Tracked.{Tracked}
 use Rattle.tracked.specs.declared.Tracked.the-variants.{Tracks, TwoNets, SpanBuffer}
 use Rattle.tracked.specs.declared.Routed.{Routed}
 use Rattle.tracked.specs.Numbers.{countOf}
-use Rattle.tracks.specs.Answer.{answerFor, trackedAs, trackedOf, spansAfter, Gives}
+use Rattle.tracks.specs.Answer.{answerFor, trackedAs, trackedOf, spansWith, spansAfter, noSpans, Gives}
 
 -- an answer has no more spans than there is room for, and than there are
 few-for : (ps : List Pin) (room : ℕ) (xs : List Span)
@@ -48,17 +49,25 @@ few b cs room = few-as (sheetOf b) cs room (listedOf b cs)
 
 module _ (b cs : List ℕ) (spans : List Span) (r : Routed)
     (gives : Gives (trackedOf b cs (length spans)) (spansOf (sheetOf b) cs) r) where
+  -- as many as the answer says are in front of the answer's array
+  held : take (countOf (r .answer)) (r .spans) ≡ spansWith (r .answer) (spansOf (sheetOf b) cs)
+  held =
+      let answer : Tracked = trackedOf b cs (length spans) in
+      let xs : List Span = spansOf (sheetOf b) cs in
+      rw (gives .0, gives .1)
+      (take-at (take (countOf answer) xs) (drop (countOf answer) noSpans) (countOf answer)
+      (length-take-le (countOf answer) xs (few b cs (length spans) .1)))
+
   -- the array has room for the spans, and so has the answer's own
   pub spans-fit : (countOf (r .answer) ≤ length spans) × (countOf (r .answer) ≤ length (r .spans))
   spans-fit =
-      let answer : Tracked = trackedOf b cs (length spans) in
       let (room, all) = few b cs (length spans) in
-      let held = sym (length-take (countOf answer) (r .spans)) ∙ ap length (gives .1)
-      ∙ length-take (countOf answer) (spansOf (sheetOf b) cs) in
+      let size = sym (length-take (countOf (r .answer)) (r .spans)) ∙ ap length held
+      ∙ length-take (countOf (r .answer)) (spansOf (sheetOf b) cs) in
       let count = ap countOf (gives .0) in
       (omega arith, omega arith)
 
   -- with its spans copied into the front it is as it should be
   pub spans-copied : take (countOf (r .answer)) (r .spans) ++ drop (countOf (r .answer)) spans ≡ spansAfter b cs spans
   unfolding spansAfter
-  spans-copied = rw (gives .0, gives .1)
+  spans-copied = rw (held, gives .0)

@@ -1,7 +1,7 @@
 -- Tracks, from what the list's check and the routing of an assignment answer.
 -- Assumes nothing.
 use Prim.Native.Nat.{ℕ}
-use mathlib.Core.Path.{_≡_, refl, sym, ap, subst}
+use mathlib.Core.Path.{_≡_, sym, ap, subst}
 use mathlib.Core.List.{List, _++_}
 use native.Mathlib.Omega.{arith}
 use Rattle.channel.specs.Sheet.{Sheet}
@@ -24,13 +24,14 @@ use Rattle.list.specs.Answer.{listedOf}
 use Rattle.list.proofs.Laws.{Assigns, assigns}
 use Rattle.tracked.specs.declared.Tracked.the-variants.{Refused}
 use Rattle.tracked.specs.declared.Routed.{Routed}
-use Rattle.tracks.specs.Answer.{trackedOf, Gives, GivesIn, AsksTracks}
+use Rattle.tracks.specs.Answer.{trackedOf, noSpans, Gives, GivesIn, AsksTracks}
 
 pub list-refused :
-    (b cs : List ℕ) (room : ℕ) (why : ListRefusal) → listedOf b cs ≡ listed.Refused why → (r : Routed) → r .answer ≡ Refused why
+    (b cs : List ℕ) (room : ℕ) (why : ListRefusal) → listedOf b cs ≡ listed.Refused why → (r : Routed)
+    → (r .answer ≡ Refused why) × (r .spans ≡ noSpans)
     → Gives (trackedOf b cs room) (spansOf (sheetOf b) cs) r
 unfolding trackedOf
-list-refused b cs room why e r answer = rw e (answer, refl)
+list-refused b cs room why e r answer = rw e answer
 
 -- an assignment, beside the two sections of its sheet
 module _ (b cs : List ℕ) (n : Layout) (answer : listedOf b cs ≡ listed.Assignment n) (top bottom : List ℕ)

@@ -4,7 +4,7 @@ use Prim.Native.Nat.{ℕ, _+_, _≤_}
 use mathlib.Core.Path.{_≡_}
 use mathlib.Core.List.{List, _++_}
 use mathlib.Core.Bool.{cond}
-use lib.ListN.{length, take, drop}
+use lib.ListN.{length, take, drop, replicate}
 use lib.Dec.{ltb}
 use Rattle.channel.specs.Sheet.{Sheet}
 use Rattle.channel.specs.Density.{Pin, pins}
@@ -46,9 +46,13 @@ spansAfter b cs spans =
     let answer : Tracked = trackedOf b cs (length spans) in
     spansWith answer (spansOf (sheetOf b) cs) ++ drop (countOf answer) spans
 
--- this answer, with its spans in front of the array
+-- an array without spans
+abbrev pub noSpans : List Span
+noSpans = replicate 128 (record { net = 0; left = 0; right = 0; track = 0 })
+
+-- this answer, with its spans in front of such an array
 abbrev pub Gives : Tracked → List Span → Routed → Type 0
-Gives answer xs r = (r .answer ≡ answer) × (spansWith answer (r .spans) ≡ spansWith answer xs)
+Gives answer xs r = (r .answer ≡ answer) × (r .spans ≡ spansWith answer xs ++ drop (countOf answer) noSpans)
 
 -- what is due of pins and their nets on a channel of l columns, with room for so many records
 abbrev pub GivesIn : ℕ → List Pin → List ℕ → ℕ → Routed → Type 0

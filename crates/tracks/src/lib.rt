@@ -21,7 +21,7 @@ ghost use Rattle.ends.specs.Ends.{pinsOf};
 ghost use Rattle.left_edge.specs.Lists.{Each};
 ghost use Rattle.left_edge.specs.Spans.{spansOf, twoNets};
 ghost use Rattle.order.specs.Keys.{Columns};
-ghost use Rattle.tracks.specs.Answer.{Gives, GivesIn, AsksTracks, trackedOf};
+ghost use Rattle.tracks.specs.Answer.{noSpans, Gives, GivesIn, AsksTracks, trackedOf};
 
 // Gives the nets of a column list their tracks: 1 to 8 of the sheet, 12, 13 and 14 of the list, then 18 where a column has pins of two nets
 // and 9 where there is room for fewer spans than nets; otherwise the spans, and how many tracks they take.
@@ -43,7 +43,7 @@ pub fn route(s: &[u8], columns: &[u8], room: usize) -> Routed
 
 // An answer without spans.
 fn refused(answer: Tracked) -> Routed
-    ensures { λ r. ⌜ r .answer ≡ answer ⌝ }
+    ensures { λ r. ⌜ (r .answer ≡ answer) × (r .spans ≡ noSpans) ⌝ }
 {
     Routed {
         answer,

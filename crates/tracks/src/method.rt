@@ -6,19 +6,20 @@ use order::interval_at;
 use tracked::Routed;
 use tracked::Tracked;
 ghost use mathlib.Core.Path.{_≡_};
-ghost use mathlib.Core.List.{map};
+ghost use mathlib.Core.List.{_++_, map};
 ghost use Prim.Native.Nat.{ℕ, _≤_, _<_, max};
-ghost use lib.ListN.{length, take};
+ghost use lib.ListN.{length, drop};
 ghost use Rattle.left_edge.specs.Lists.{Each};
 ghost use Rattle.left_edge.specs.Method.{passed, trackOn, step, leftEdge, greatest};
 ghost use Rattle.order.specs.Keys.{intervalAt};
 ghost use Rattle.tracked.specs.declared.Tracked.the-variants.{Tracks};
+ghost use Rattle.tracks.specs.Answer.{noSpans};
 
 // The spans of intervals in order, each given as its key, and how many tracks they take.
 pub fn route_keys(keys: &[u32]) -> Routed
     requires { ⌜ (length (now keys) ≤ 128) × Each (λ (k : ℕ). 1 ≤ intervalAt k .left) (now keys) ⌝ }
     ensures answer { λ r. ⌜ r .answer ≡ Tracks (length (now (keys .entry))) (greatest (leftEdge (map intervalAt (now (keys .entry))))) ⌝ }
-    ensures spans { λ r. ⌜ take (length (now (keys .entry))) (r .spans) ≡ leftEdge (map intervalAt (now (keys .entry))) ⌝ }
+    ensures spans { λ r. ⌜ r .spans ≡ leftEdge (map intervalAt (now (keys .entry))) ++ drop (length (now (keys .entry))) noSpans ⌝ }
 {
     let mut spans = [Span {
         net: 0,

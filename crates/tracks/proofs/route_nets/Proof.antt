@@ -107,7 +107,7 @@ returns-3 c =
     ∙ keys-spans (l d) (nets d) (columns d) (s d .pre .0) (numbers (d .before .before .before)) in
     let n = size d ∙ count d in
     gives-tracks _ _ _ _ (sym (at-else .before .two-nets .ensures) ∙ at-else .if1 .left) (omega (arith, at-else2 .if2 .left, count d))
-    (answer ∙ rw (n, edge)) (subst (λ (k : ℕ). take k (c .route-keys .result .spans) ≡ spans d) n (routed ∙ edge))
+    (answer ∙ rw (n, edge)) (routed ∙ rw (n, edge))
 
 pub route-nets-spec : {M : Type 1} → statement M
 route-nets-spec =

@@ -2,12 +2,16 @@
 -- is how many are left.
 -- Assumes nothing.
 use Prim.Native.Nat.{ℕ, _-_, _≤_, max}
-use mathlib.Core.Path.{_≡_, refl, sym, _∙_, ap}
+use mathlib.Core.Path.{_≡_, sym, _∙_, ap}
+use mathlib.Core.List.{_++_, map}
 use native.Mathlib.Omega.{arith}
 use borrow.Author.Needs.{needs}
-use lib.ListN.{length}
+use lib.ListN.{length, drop}
 use Rattle.left_edge.specs.declared.Interval.{Interval}
+use Rattle.left_edge.specs.Method.{leftEdge}
+use Rattle.order.specs.Keys.{intervalAt}
 use Rattle.tracked.specs.declared.Tracked.the-variants.{Tracks}
+use Rattle.tracks.specs.Answer.{noSpans}
 use Rattle.tracks.proofs.OnTracks.{OnTracks, on-none, free, on-next, on-all}
 use Rattle.tracks.proofs.method.route_keys.Statement.{statement}
 use Rattle.tracks.proofs.method.route_keys.Tie as tie
@@ -21,7 +25,7 @@ abbrev μ-loop : tie.MeasureT-loop
 loop-holds : tie.Need-loop-holds Inv-loop μ-loop
 loop-holds c =
     let s = c .before in
-    (omega arith, on-none (s .args .keys .now) (s .pre .0) (s .pre .1) _ refl)
+    (omega arith, on-none (s .args .keys .now) (s .pre .0) (s .pre .1))
 
 take-track-requires : tie.Need-take-track-requires Inv-loop μ-loop
 take-track-requires c κs =
@@ -56,8 +60,10 @@ returns c =
     let s = c .before .before .before in
     let l = c .before .loop in
     let last : l .i ≡ length (s .args .keys .now) = omega arith in
-    let (spans, tracks) = on-all (s .args .keys .now) (s .pre .0) (s .pre .1) (l .inv .1) (c .loop-test .left) in
-    (ap (Tracks (length (s .args .keys .now))) tracks, rw last at spans)
+    let (spans, tracks) = on-all (s .args .keys .now) (s .pre .0) (s .pre .1) (l .inv .1) last in (
+      ap (Tracks (length (s .args .keys .now))) tracks,
+      spans ∙ ap (λ (n : ℕ). leftEdge (map intervalAt (s .args .keys .now)) ++ drop n noSpans) last,
+    )
 
 pub route-keys-spec : {M : Type 1} → statement M
 route-keys-spec =
