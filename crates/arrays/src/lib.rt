@@ -1,5 +1,7 @@
 // The two arrays that the table is filled from: of every terminal the two words of its rule, and of every cut its three loads. Where
 // they stand in their array is said here alone.
+#![tactic(auto)]
+
 ghost use Rattle.std.specs.Prelude.{◌≤◌, ◌≡◌, length};
 ghost use Rattle.arrays.specs.Rules.{pins, rule_words, range_at, allowed_at, put_rule};
 ghost use Rattle.arrays.specs.Loads.{load_bytes, load_at, put_loads};

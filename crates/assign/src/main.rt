@@ -1,4 +1,6 @@
 // Reads one sheet from standard input and prints its best assignment, or why there is none.
+#![tactic(auto)]
+
 use libc::{STDIN_FILENO, STDOUT_FILENO};
 
 fn main() {

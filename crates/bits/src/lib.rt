@@ -1,4 +1,6 @@
 // Sets of numbers below 64 as words.
+#![tactic(auto)]
+
 ghost use Rattle.std.specs.Prelude.{ℕ, ◌≤◌, ◌<◌, ◌≡◌, true, false, ◌&&◌, ◌||◌, leb, ltb, eqb};
 ghost use Rattle.bits.specs.Bits.{bit_of};
 

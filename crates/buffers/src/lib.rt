@@ -1,4 +1,5 @@
 // Marked buffers: a buffer is filled with marks before it is lent, so that a write shows. No mark is a column or 0.
+#![tactic(auto)]
 
 fn byte_mark(i: usize) -> u8 {
     (i % 50) as u8 + 200

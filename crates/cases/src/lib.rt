@@ -1,5 +1,6 @@
 // Cases as text. A command is a word, which counts by its first letter, then numbers, then a name behind a colon. A
 // semicolon or a line's end closes it; a line that starts with # is a remark.
+#![tactic(auto)]
 
 use fixtures::Page;
 use std::num::{wrapping_add_u64, wrapping_add_usize};

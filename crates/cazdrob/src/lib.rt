@@ -1,5 +1,7 @@
 // The library's face for hosts: C functions that answer with document 01's numbers. include/cazdrob.h declares them. None asks
 // anything of its caller but what the types of its parameters say.
+#![tactic(auto)]
+
 ghost use Rattle.std.specs.Prelude.{◌≡◌};
 ghost use Rattle.channel.specs.Distance.{amount};
 ghost use Rattle.soundness.specs.Check.{check_of};

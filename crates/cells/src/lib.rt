@@ -1,4 +1,6 @@
 // Words in 16-bit cells.
+#![tactic(auto)]
+
 ghost use Rattle.std.specs.Prelude.{◌+◌, ◌*◌, ◌≤◌, ◌≡◌, length};
 ghost use Rattle.cells.specs.Cells.{word_at, put_word};
 

@@ -18,6 +18,7 @@ any_below_cong (suc n) f g h = ap₂ (λ (a b : Bool). a || b) (h n (omega arith
 
 -- a number below n of which f holds
 pub any_below-from : (n : ℕ) (f : ℕ → Bool) (k : ℕ) → k < n → f k ≡ true → any_below n f ≡ true
+any_below-from zero f k h e = elim h [ ]
 any_below-from (suc n) f k h e = by-test (λ l. any_below-from n f k l e) (eqb k n) refl
   where
     by-test : (k < n → any_below n f ≡ true) → (b : Bool) → eqb k n ≡ b → (f n || any_below n f) ≡ true

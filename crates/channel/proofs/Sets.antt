@@ -20,6 +20,7 @@ allows_at set (suc c) h = ap (λ (k : ℕ). eqb (set / 2 ^ k % 2) 1) (omega arit
 
 -- a set below 2 ^ l names no column above l
 pub allows-below : (set l c : ℕ) → set < 2 ^ l → l < c → allows set c ≡ false
+allows-below set l zero h k = elim k [ ]
 allows-below set l (suc c) h k = ap (λ (n : ℕ). eqb (n % 2) 1) (div-eq_of_lt (lt_of_lt_of_le h (pow_mono k')))
   where
     k' : l ≤ c

@@ -1,4 +1,6 @@
 // The steps through a sheet's terminals, top then bottom.
+#![tactic(auto)]
+
 ghost use Rattle.std.specs.Prelude.{◌≡◌};
 ghost use Rattle.sheet.specs.Parts.{entry_at};
 ghost use Rattle.cursor.specs.Visits.{start, step_of, visit_of};

@@ -1,4 +1,6 @@
 // The three loads of one cut, counted in one loop over the nets.
+#![tactic(auto)]
+
 ghost use Rattle.std.specs.Prelude.{◌≡◌, cond, ◌+◌, ◌≤◌, ◌<◌, length};
 ghost use Rattle.channel.specs.Density.{crossing};
 ghost use Rattle.cut.specs.Counts.{stand_of, with_net, loads_at};

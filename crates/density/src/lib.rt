@@ -1,4 +1,6 @@
 // The density of a list: each net is counted once in the columns that it crosses.
+#![tactic(auto)]
+
 ghost use Rattle.std.specs.Prelude.{◌≡◌, ℕ, ◌≤◌, ◌<◌, length, get_or, replicate};
 ghost use Rattle.channel.specs.Density.{weight, maximum_to, density};
 ghost use Rattle.sheet.specs.Parts.{sheet_in};

@@ -1,4 +1,6 @@
 // Small sheets by number, for programs that try many: each number gives the same sheet on every run.
+#![tactic(auto)]
+
 mod draws;
 mod sheets;
 

@@ -1,4 +1,6 @@
 // A sheet's numbers, records and trailer written into a buffer from a place on; each function gives the place behind.
+#![tactic(auto)]
+
 ghost use Rattle.std.specs.Prelude.{◌+◌, ◌≤◌, length};
 ghost use Rattle.text.specs.Writing.{Wrote};
 ghost use Rattle.terminal.specs.Terminal.{terminal_of};

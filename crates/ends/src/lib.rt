@@ -1,4 +1,6 @@
 // How far each net reaches in a column list.
+#![tactic(auto)]
+
 ghost use Rattle.std.specs.Prelude.{◌≡◌, cond, min, max, length};
 ghost use Rattle.ends.specs.Ends.{pins_of, ends_of};
 

@@ -1,4 +1,6 @@
 // One word of the table, from the planes before it. `table` has the table.
+#![tactic(auto)]
+
 ghost use Rattle.std.specs.Prelude.{ℕ, ◌+◌, ◌-◌, ◌≤◌, ◌<◌, ◌≡◌, length, leb};
 ghost use Rattle.arrays.specs.Rules.{pins};
 ghost use Rattle.arrays.specs.Loads.{load_bytes, load_at};

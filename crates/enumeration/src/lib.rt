@@ -1,4 +1,6 @@
 // Every list of allowed columns of a small sheet, and the tracks of a list, by the definitions alone: nothing here asks the library.
+#![tactic(auto)]
+
 mod assignments;
 mod crossings;
 mod lists;

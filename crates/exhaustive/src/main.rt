@@ -1,5 +1,7 @@
 // Compares the library's search with a separately written exhaustive one on many small sheets, and its measurements
 // with the program's own reading of the rules.
+#![tactic(auto)]
+
 use measures::Tally;
 use printing::number;
 use std::num::wrapping_add_u64;

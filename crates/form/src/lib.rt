@@ -1,4 +1,6 @@
 // The form of a sheet's bytes: refusals 1 to 5.
+#![tactic(auto)]
+
 ghost use Rattle.std.specs.Prelude.{◌≡◌, ◌≤◌};
 ghost use Rattle.form.specs.Form.{form_of, trailer_check, follows, laid_out};
 

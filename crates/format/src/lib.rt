@@ -1,4 +1,5 @@
 // The sections of a sheet's bytes and the records in them. No other layer reads a byte of a record or says how long one is.
+#![tactic(auto)]
 
 ghost use Rattle.std.specs.Prelude.{◌≡◌, ◌+◌, ◌*◌, ◌≤◌, min, length, get_or};
 ghost use Rattle.channel.specs.Sheet.{no_terminal};

@@ -1,4 +1,6 @@
 // The kind of a net, by its number: whether it leaves the channel by an end.
+#![tactic(auto)]
+
 ghost use Rattle.std.specs.Prelude.{◌≡◌};
 ghost use Rattle.kind.specs.Kinds.{kind_of, left_start, right_start};
 

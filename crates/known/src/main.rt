@@ -1,5 +1,6 @@
 // Runs every row of the rules' "Sheets with known results" through the library, and prints each answer on a line. The rows
 // are the standard input; `cases` says how they are written, and has the commands that build a sheet.
+#![tactic(auto)]
 
 use buffers::{first_bytes, first_cells};
 use cases::{Command, low};

@@ -1,5 +1,6 @@
 // A net on a channel: its interval and, once it is routed, its span. The definitions in specs/ and the theorems in proofs/ say which spans
 // the left-edge method gives; there is no function here.
+#![tactic(auto)]
 
 // From where to where a net runs, and whether it crosses any column.
 #[derive(Drop)]

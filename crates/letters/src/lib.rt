@@ -1,4 +1,6 @@
 // The letters of the walk: which pins each places, and the columns that it writes.
+#![tactic(auto)]
+
 ghost use Rattle.std.specs.Prelude.{◌+◌, ◌-◌, ◌≤◌, ◌<◌, ◌≡◌, true, cond, length, set};
 ghost use Rattle.letters.specs.Letters.{has_pin, behind, written};
 

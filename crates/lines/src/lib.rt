@@ -1,4 +1,6 @@
 // The lines of an assignment's terminals.
+#![tactic(auto)]
+
 ghost use Rattle.std.specs.Prelude.{◌≡◌, ◌+◌, ◌*◌, ◌≤◌, length};
 ghost use Rattle.format.specs.Parts.{terminals_in};
 ghost use Rattle.cursor.specs.Visits.{visits};

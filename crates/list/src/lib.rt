@@ -1,5 +1,6 @@
 // Whether a column list is an assignment of a sheet, which a call on such a list asks first. The sheet is read only through the sheet
 // layer.
+#![tactic(auto)]
 
 mod rules;
 

@@ -1,5 +1,7 @@
 // The load layer: how many nets cross a column, for every cut of the two sides. A cut (i, j) is a column with i top
 // and j bottom pins at or left of it. Each net is counted once, from its first and last place on each side.
+#![tactic(auto)]
+
 ghost use Rattle.std.specs.Prelude.{◌≡◌, cond, ℕ, ◌+◌, ◌≤◌, ◌<◌, length, take, drop};
 ghost use Rattle.format.specs.Parts.{terminals_in};
 ghost use Rattle.arrays.specs.Loads.{load_bytes};

@@ -1,4 +1,6 @@
 // The answer about two sides of modules, and its number and length by the refusal list.
+#![tactic(auto)]
+
 ghost use Rattle.std.specs.Prelude.{◌≡◌};
 ghost use Rattle.made.specs.Numbers.{number_of, length_of};
 

@@ -1,4 +1,6 @@
 // The density of a given column list.
+#![tactic(auto)]
+
 ghost use Rattle.std.specs.Prelude.{◌≡◌};
 ghost use Rattle.measure.specs.Answer.{measured_of};
 

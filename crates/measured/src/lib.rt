@@ -1,4 +1,6 @@
 // The answer of a measurement, with its number, density and amount by document 01's refusal list.
+#![tactic(auto)]
+
 ghost use Rattle.std.specs.Prelude.{◌≡◌};
 ghost use Rattle.measured.specs.Numbers.{number_of, density_of, amount_of};
 

@@ -1,4 +1,6 @@
 // What 16, 17, 4 and 6 ask of one side of modules.
+#![tactic(auto)]
+
 ghost use Rattle.std.specs.Prelude.{◌≡◌, ◌&&◌, ◌+◌, ◌-◌, ◌*◌, ◌^◌, ◌≤◌, ◌<◌, length};
 ghost use Rattle.modules.specs.Bytes.{pin_size, module_of, modules_in};
 ghost use Rattle.module_check.specs.Tests.{pin_tests_of, module_tests, combined, tests_of};

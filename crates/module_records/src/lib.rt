@@ -1,4 +1,6 @@
 // The terminals of a side of modules, written as records.
+#![tactic(auto)]
+
 ghost use Rattle.std.specs.Prelude.{◌≡◌, ◌+◌, ◌-◌, ◌*◌, ◌^◌, ◌≤◌, ◌<◌, length};
 ghost use Rattle.text.specs.Writing.{Wrote};
 ghost use Rattle.terminal.specs.Terminal.{record_of};

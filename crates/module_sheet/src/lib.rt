@@ -1,4 +1,6 @@
 // The sheet of two sides of modules.
+#![tactic(auto)]
+
 ghost use Rattle.std.specs.Prelude.{◌≡◌, ◌≤◌, length};
 ghost use Rattle.text.specs.Writing.{Wrote};
 ghost use Rattle.trailer.specs.Trailer.{CP};

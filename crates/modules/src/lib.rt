@@ -1,5 +1,7 @@
 // A side of modules as a list of bytes: the head of each module, then its pins. No other layer reads a byte of it or says how long a
 // head or a pin is.
+#![tactic(auto)]
+
 ghost use Rattle.std.specs.Prelude.{◌≡◌, ◌+◌, ◌≤◌, length};
 ghost use Rattle.modules.specs.Bytes.{pin_size, pin_at, cut_head, head_in};
 

@@ -1,4 +1,6 @@
 // The nets of a sheet's terminals.
+#![tactic(auto)]
+
 ghost use Rattle.std.specs.Prelude.{◌≡◌, ◌++◌, ◌+◌, length, drop, eqb};
 ghost use Rattle.channel.specs.Density.{any};
 ghost use Rattle.channel.specs.Cut.{nets as nets_of};

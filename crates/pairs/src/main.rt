@@ -1,5 +1,7 @@
 // Searches two sheets by one call, and prints both answers, whether what the rules say of the two holds, and whether the
 // buffers are left as the rules say. Every sheet is sheet A or a changed form of it.
+#![tactic(auto)]
+
 use trial::{Rule, in_buffers, pair, sheet_a};
 
 mod trial;

@@ -1,4 +1,6 @@
 // Passes over the table: whether all pins can be placed under a bound, and the least such bound.
+#![tactic(auto)]
+
 ghost use Rattle.std.specs.Prelude.{◌+◌, ◌*◌, ◌≤◌, ◌<◌, min, ◌≡◌, true, false, cond, length};
 ghost use Rattle.channel.specs.Density.{most_density};
 ghost use Rattle.pass.specs.Pass.{AsksPass, feasible_in, Rising, Tried, Bounded, Placed};

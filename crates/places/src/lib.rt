@@ -1,4 +1,6 @@
 // The list of the nets of both sides, each once, with its first and last place on each side.
+#![tactic(auto)]
+
 ghost use Rattle.std.specs.Prelude.{◌≡◌, ◌++◌, ◌+◌, ◌*◌, ◌≤◌, ◌<◌, min, max, length, take, drop};
 ghost use Rattle.places.specs.Places.{reached, ends_of, places_of, numbers_of, places_at, AsksPlaces, Put, PlacesListed};
 

@@ -1,4 +1,6 @@
 // The test programs' answers, in lines of text.
+#![tactic(auto)]
+
 use format::Side;
 use libc::STDOUT_FILENO;
 use refusals::Checked;

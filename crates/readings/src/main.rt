@@ -1,4 +1,5 @@
 // Walks sheets by a reader, from the first step to two steps past the end, and prints what each step finds.
+#![tactic(auto)]
 
 mod show;
 

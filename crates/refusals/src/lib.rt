@@ -1,4 +1,6 @@
 // The refusal list, as far as it is a sheet's or a column list's.
+#![tactic(auto)]
+
 ghost use Rattle.std.specs.Prelude.{◌≡◌};
 ghost use Rattle.refusals.specs.Refusals.{number_of};
 ghost use Rattle.refusals.specs.Lists.{list_number, list_amount};

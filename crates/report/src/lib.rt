@@ -1,4 +1,6 @@
 // The text that the program prints, as functions on slices.
+#![tactic(auto)]
+
 ghost use Rattle.std.specs.Prelude.{◌≡◌, ◌+◌, ◌*◌, ◌≤◌, length, take};
 ghost use Rattle.sheet.specs.Parts.{shape_of, opened_of};
 ghost use Rattle.text.specs.Writing.{Wrote};

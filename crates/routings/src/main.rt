@@ -1,4 +1,6 @@
 // Compares the library's tracks with a separately written reading of the rule on many small sheets.
+#![tactic(auto)]
+
 use printing::number;
 use tally::Tally;
 

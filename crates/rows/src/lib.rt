@@ -1,4 +1,6 @@
 // The rows of a plane of the table: each is a word, in four cells.
+#![tactic(auto)]
+
 ghost use Rattle.std.specs.Prelude.{ℕ, suc, ◌+◌, ◌-◌, ◌*◌, ◌≤◌, ◌<◌, ◌≡◌, ◌&&◌, length};
 ghost use Rattle.channel.specs.Below.{any_below};
 ghost use Rattle.bits.specs.Bits.{bit_of};

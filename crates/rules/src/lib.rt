@@ -1,5 +1,7 @@
 // The rules of a side's terminals, as the table reads them: for each terminal a word of distances and a
 // word of columns.
+#![tactic(auto)]
+
 ghost use Rattle.std.specs.Prelude.{ℕ, ◌+◌, ◌≤◌, ◌<◌, ◌≡◌, length};
 ghost use Rattle.channel.specs.Assignment.{in_range};
 ghost use Rattle.arrays.specs.Rules.{pins, rule_words};

@@ -1,4 +1,6 @@
 // The search for the best assignment of a sheet.
+#![tactic(auto)]
+
 ghost use Rattle.std.specs.Prelude.{◌≡◌};
 ghost use Rattle.sheet.specs.Parts.{opened_of};
 ghost use Rattle.search.specs.Answer.{Searches};

@@ -1,4 +1,6 @@
 // The answer of a search, and its number and density by document 01's refusal list.
+#![tactic(auto)]
+
 ghost use Rattle.std.specs.Prelude.{◌≡◌};
 ghost use Rattle.searched.specs.Numbers.{number_of, density_of};
 

@@ -1,4 +1,5 @@
 // The sheet layer: the parts of a sound sheet.
+#![tactic(auto)]
 
 mod parts;
 

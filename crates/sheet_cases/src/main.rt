@@ -1,5 +1,7 @@
 // Runs the cases of the standard input: sheets at the edges of the format, and what the sheet layer answers for each.
 // `cases` says how a case is written, and has the commands that build a sheet; those that ask are here.
+#![tactic(auto)]
+
 use cases::{Command, low};
 use fixtures::{PAGE, Page, front};
 use format::Side;

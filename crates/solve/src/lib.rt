@@ -1,4 +1,6 @@
 // The search over the two sections of a sound sheet.
+#![tactic(auto)]
+
 ghost use Rattle.std.specs.Prelude.{◌+◌, ◌-◌, ◌≤◌, ◌≡◌, ◌++◌, cond, length, drop, replicate, eqb};
 ghost use Rattle.solve.specs.Solved.{plan_of, AsksSolve, Worked, Solved};
 

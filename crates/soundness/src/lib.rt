@@ -1,4 +1,5 @@
 // The soundness layer: the sheet check.
+#![tactic(auto)]
 
 mod sides;
 

@@ -1,5 +1,7 @@
 // The caller's array of spans. The borrow checker covers no function over a slice of structs, so `copy_spans` is proved by a walk of its
 // code, by hand. It is thin: what it stores comes from `span_at`, which is covered.
+#![tactic(auto)]
+
 ghost use Rattle.std.specs.Prelude.{◌≡◌, ◌++◌, ◌≤◌, ◌<◌, length, take, drop};
 ghost use Rattle.tracked.specs.Numbers.{count_of};
 ghost use Rattle.span_array.specs.Spans.{span_at};

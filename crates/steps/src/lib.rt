@@ -1,4 +1,6 @@
 // The numbers that are reached from a set by the steps of another.
+#![tactic(auto)]
+
 ghost use Rattle.std.specs.Prelude.{ℕ, ◌≤◌, ◌<◌, ◌≡◌};
 ghost use Rattle.bits.specs.Bits.{bit_of};
 ghost use Rattle.steps.specs.Stepped.{stepped, covered};

@@ -1,4 +1,5 @@
 // The terminal layer: what one terminal's record says.
+#![tactic(auto)]
 
 mod columns;
 

@@ -1,4 +1,6 @@
 // Words and numbers written into a buffer from a place on; each function gives the place behind the text.
+#![tactic(auto)]
+
 ghost use Rattle.std.specs.Prelude.{◌≡◌, ◌∷◌, [], ◌+◌, ◌≤◌, ◌<◌, length};
 ghost use Rattle.text.specs.Digits.{digits, field};
 ghost use Rattle.text.specs.Writing.{Wrote};

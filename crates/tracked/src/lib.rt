@@ -1,4 +1,6 @@
 // The answer about the tracks of a column list, with its numbers by the refusal list, and the spans that come with it.
+#![tactic(auto)]
+
 ghost use Rattle.std.specs.Prelude.{◌≡◌};
 ghost use Rattle.tracked.specs.Numbers.{number_of, count_of, tracks_of, amount_of};
 

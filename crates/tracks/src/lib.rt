@@ -1,4 +1,5 @@
 // Tracks for a clean assignment, one in which no column has pins of two nets.
+#![tactic(auto)]
 
 mod method;
 

@@ -1,5 +1,6 @@
 // The trailer at the end of a sheet's bytes: its mark, its numbers, and where each side's section stands by them. No other layer reads a
 // byte of it or says how long it is.
+#![tactic(auto)]
 
 ghost use Rattle.std.specs.Prelude.{◌≡◌};
 ghost use Rattle.trailer.specs.Trailer.{has_mark, TrailerRead};

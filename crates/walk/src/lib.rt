@@ -1,4 +1,6 @@
 // The walk from column L down that takes the smallest letter after which the rest can still be placed.
+#![tactic(auto)]
+
 ghost use Rattle.std.specs.Prelude.{ℕ, ◌+◌, ◌-◌, ◌≤◌, ◌<◌, min, ◌≡◌, length};
 ghost use Rattle.arrays.specs.Rules.{pins, rule_words};
 ghost use Rattle.bits.specs.Bits.{bit_of};
