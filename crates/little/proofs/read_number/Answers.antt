@@ -1,21 +1,11 @@
--- `little::read_number` meets its contract. The loop's invariant: the value is the number in the bytes passed, and is below 2 to the
--- number of their bits.
--- The measure is how many bytes are left.
--- Assumes nothing.
-use Prim.Native.Nat.{ℕ, ◌≤◌, ◌<◌, ◌+◌, ◌-◌, ◌*◌, ◌^◌}
-use mathlib.Core.Path.{◌≡◌, ◌∙◌, ap}
+use Prim.Native.Nat.{ℕ, ◌<◌, ◌+◌, ◌-◌, ◌*◌, ◌^◌}
+use mathlib.Core.Path.{◌∙◌, ap}
 use native.Mathlib.Omega.{arith}
 use lib.ListN.{get_or}
 use lib.Dec.{lit<}
 use lib.Pow.{pow_pos}
-use Rattle.little.specs.Little.{little}
-use Rattle.little.proofs.Bytes.{little-none, little-all, little_down, byte_more, byte_fits}
+use Rattle.little.proofs.Bytes.{little-none, little_down, byte_more, byte_fits}
 use Rattle.little.proofs.read_number.Goals as goal
-
--- the byte that is read
-byte : (c : tie.After-shared-slice-known invariant-loop decreases-loop)
-    → get_or c.before.before.before.args.s.now (c.before.before.before.args.at + (c.before.before.loop.left - 1)) 0 < 256
-byte c = (c.shared-slice-known.given (c.before.before.before.args.at + (c.before.before.loop.left - 1))).fits
 
 pub loop-left-init : goal.loop-left-init
 loop-left-init c =
@@ -23,10 +13,16 @@ loop-left-init c =
     (omega arith, little-none a.n a.s.now (a.at + a.n), pow_pos (8 * (a.n - a.n)))
 
 pub overflow_mul-value : goal.overflow_mul-value
-overflow_mul-value c = ?
+overflow_mul-value c =
+    let l = c.loop-left in
+    let b : l.value * 256 + 0 < 2 ^ 64 =
+    byte_fits c.args.n l.left c.loop-left-test.true l.invariant.0 c.requires.1 l.invariant.2 (lit< tt) in
+    omega arith
 
 pub overflow_add-value-in-loop-left : goal.overflow_add-value-in-loop-left
-overflow_add-value-in-loop-left c = ?
+overflow_add-value-in-loop-left c =
+    let l = c.loop-left in
+    record { fits = byte_fits c.args.n l.left c.loop-left-test.true l.invariant.0 c.requires.1 l.invariant.2 (c.type_inv.s (c.args.at + (l.left - 1))).fits }
 
 pub loop-left-preserved : goal.loop-left-preserved
 loop-left-preserved c =
@@ -36,5 +32,5 @@ loop-left-preserved c =
       omega arith,
       ap (λ (v : ℕ). v * 256 + get_or a.s.now (a.at + (k - 1)) 0) i.1
           ∙ little_down a.n k a.s.now a.at c.loop-left-test.true i.0,
-      byte_more a.n k c.loop-left-test.true i.0 i.2 (byte c),
+      byte_more a.n k c.loop-left-test.true i.0 i.2 (c.type_inv.s (a.at + (k - 1))).fits,
     )
