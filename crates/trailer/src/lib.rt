@@ -8,7 +8,7 @@ ghost use Rattle.trailer.specs.Trailer.{has_mark, TrailerRead};
 use little::read_number;
 
 // Where one side's section stands in the sheet: its offset and its number of terminals.
-#[derive(Drop)]
+#[derive(Clone, Copy)]
 pub struct Part {
     pub at: usize,
     pub count: usize,
