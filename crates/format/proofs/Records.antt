@@ -24,6 +24,7 @@ length-terminals b i (suc n) = ap suc (length-terminals b (i + record_size) n)
 -- and the k-th of them stands behind k records
 nth_terminal : (b : List ℕ) (i n k : ℕ) → k < n → terminal_at b (i + record_size * k) ≡ get_or (terminals_from b i n) k no_terminal
 unfolding terminals_from
+nth_terminal b i zero k h = elim h [ ]
 nth_terminal b i (suc n) zero h = ap (terminal_at b) (omega arith)
 nth_terminal b i (suc n) (suc k) h = ap (terminal_at b) (omega arith) ∙ nth_terminal b (i + record_size) n k (omega arith)
 
