@@ -1,0 +1,18 @@
+-- `nets::occurs` meets its contract. The loop's invariant: the net occurs exactly if it was found so far, or does among the places that
+-- are left. The measure is how many they are.
+-- Assumes nothing.
+use Prim.Native.Nat.{◌-◌}
+use mathlib.Core.Path.{◌≡◌, refl, sym, ◌∙◌, ap}
+use mathlib.Core.Bool.{Bool, ◌||◌, or_assoc, or-false}
+use native.Mathlib.Omega.{arith}
+use lib.ListN.{length, get_or, drop, drop_of_length-le}
+use lib.Dec.{eqb}
+use Rattle.channel.specs.Density.{any}
+use Rattle.nets.proofs.Nets.{any-more}
+use Rattle.nets.proofs.occurs.Given as goal
+
+abbrev pub invariant-loop-i : goal.invariant-loop-i
+invariant-loop-i l = any (eqb l.net) (drop l.from l.nets) ≡ (l.found || any (eqb l.net) (drop l.i l.nets))
+
+abbrev pub decreases-loop-i : goal.decreases-loop-i
+decreases-loop-i l = length l.nets - l.i
