@@ -5,7 +5,7 @@ ghost use Rattle.std.specs.Prelude.{◌≡◌};
 ghost use Rattle.kind.specs.Kinds.{kind_of, left_start, right_start};
 
 // A net that stays in the channel, or leaves it at the left, at the right or at both ends.
-#[derive(Drop)]
+#[derive(Clone, Copy)]
 pub enum Kind {
     Plain,
     Left,
