@@ -1,7 +1,6 @@
 -- `cells::read_word` meets its contract: the four cells, joined.
 -- Assumes nothing.
 use Rattle.cells.specs.Cells.{word_at}
-use borrow.Author.Rules.{rules}
 use Rattle.cells.proofs.read_word.Goals as goal
 
 pub returns : goal.returns

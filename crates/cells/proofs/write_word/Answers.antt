@@ -1,7 +1,5 @@
 -- `cells::write_word` meets its contract: the four stores are those of `put_word`.
 -- Assumes nothing.
-use native.Mathlib.Omega.{arith}
-use lib.ListN.{length-set}
 use Rattle.cells.specs.Cells.{put_word}
 use borrow.Author.Rules.{rules}
 use Rattle.cells.proofs.write_word.Goals as goal

@@ -2,14 +2,9 @@
 -- number of their bits.
 -- The measure is how many bytes are left.
 -- Assumes nothing.
-use Prim.Native.Nat.{ℕ, ◌≤◌, ◌<◌, ◌+◌, ◌-◌, ◌*◌, ◌^◌}
-use mathlib.Core.Path.{◌≡◌, ◌∙◌, ap}
-use native.Mathlib.Omega.{arith}
-use lib.ListN.{get_or}
-use lib.Dec.{lit<}
-use lib.Pow.{pow_pos}
+use Prim.Native.Nat.{◌≤◌, ◌<◌, ◌+◌, ◌-◌, ◌*◌, ◌^◌}
+use mathlib.Core.Path.{◌≡◌}
 use Rattle.little.specs.Little.{little}
-use Rattle.little.proofs.Bytes.{little-none, little-all, little_down, byte_more, byte_fits}
 use Rattle.little.proofs.read_number.Given as goal
 
 abbrev pub invariant-loop-left : goal.invariant-loop-left
