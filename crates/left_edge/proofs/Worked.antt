@@ -10,7 +10,7 @@ use Rattle.channel.specs.Density.{crosses, nets_of, column_density, density}
 use Rattle.channel.specs.Spans.{leftmost, rightmost}
 use Rattle.left_edge.specs.declared.Interval.{Interval}
 use Rattle.left_edge.specs.declared.Span.{Span}
-use Rattle.left_edge.specs.Method.{left_edge, greatest}
+use Rattle.left_edge.specs.Method.{left_edge}
 use Rattle.left_edge.specs.Spans.{spans_in, spans_of}
 
 abbrev interval : ℕ → ℕ → ℕ → Bool → Interval

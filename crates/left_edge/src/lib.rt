@@ -3,7 +3,7 @@
 #![tactic(auto)]
 
 // From where to where a net runs, and whether it crosses any column.
-#[derive(Drop)]
+#[derive(Clone, Copy)]
 pub struct Interval {
     pub net: u16,
     pub left: u8,
@@ -13,7 +13,7 @@ pub struct Interval {
 
 // A net's record in the caller's array: its two ends and its track, 0 where it crosses no column. Eight bytes, as C lays the struct out.
 #[repr(C)]
-#[derive(Drop)]
+#[derive(Clone, Copy)]
 pub struct Span {
     pub net: u16,
     pub left: u16,

@@ -6,7 +6,7 @@ ghost use Rattle.refusals.specs.Refusals.{number_of};
 ghost use Rattle.refusals.specs.Lists.{list_number, list_amount};
 
 // Why a sheet is refused; `number_of` gives each its number.
-#[derive(Drop)]
+#[derive(Clone, Copy)]
 pub enum Refusal {
     Short,
     Mark,
@@ -19,7 +19,7 @@ pub enum Refusal {
 }
 
 // The answer of a check: sound, or the first refusal that applies.
-#[derive(Drop)]
+#[derive(Clone, Copy)]
 pub enum Checked {
     Sound,
     Refused(Refusal),
@@ -27,7 +27,7 @@ pub enum Checked {
 
 // Why a column list is no assignment of a sheet: the sheet is refused, the list is not p+q long, a column is not in its terminal's set, or
 // a distance is out of range by so many columns, negative where it is too short and positive where it is too long.
-#[derive(Drop)]
+#[derive(Clone, Copy)]
 pub enum ListRefusal {
     Sheet(Refusal),
     Count,

@@ -9,7 +9,7 @@ use refusals::ListRefusal;
 
 // How many nets there are and how many tracks they take, or why they get none: the list is no assignment, a column has pins of two nets, or
 // the array has fewer records than there are nets.
-#[derive(Drop)]
+#[derive(Clone, Copy)]
 pub enum Tracked {
     Tracks(usize, u16),
     Refused(ListRefusal),
@@ -18,7 +18,7 @@ pub enum Tracked {
 }
 
 // The answer, with the spans of the nets in front of an array; with a refusal there are none.
-#[derive(Drop)]
+#[derive(Clone, Copy)]
 pub struct Routed {
     pub answer: Tracked,
     pub spans: [Span; 128],
