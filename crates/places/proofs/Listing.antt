@@ -24,6 +24,7 @@ places_more s xs m =
 
 pub places_at_lem : (tops bottoms ns : List ℕ) (m : ℕ) → m < length ns
     → places_at (places_list tops bottoms ns) m ≡ places_of tops bottoms (get_or ns m 0)
+places_at_lem tops bottoms [] m h = elim h [ ]
 places_at_lem tops bottoms (n ∷ ns) zero h = refl
 places_at_lem tops bottoms (n ∷ ns) (suc m) h =
     places_more (places_of tops bottoms n) (places_list tops bottoms ns) m ∙ places_at_lem tops bottoms ns m (omega arith)
