@@ -17,7 +17,7 @@ use steps::steps;
 
 // The table's measures: the rows of a plane, the planes for one i, and the cells of a plane and of those
 // planes.
-#[derive(Drop)]
+#[derive(Clone, Copy)]
 pub struct Grid {
     pub rows: usize,
     pub across: usize,
@@ -26,7 +26,7 @@ pub struct Grid {
 }
 
 // One row of one plane, whose cells start at `at`.
-#[derive(Drop)]
+#[derive(Clone, Copy)]
 pub struct Place {
     pub i: usize,
     pub j: usize,
