@@ -1,0 +1,12 @@
+-- `buffers::mark_bytes` is safe and ends: a turn for each byte. The buffer keeps its length.
+-- Assumes nothing.
+use Prim.Native.Nat.{◌-◌}
+use mathlib.Core.Path.{◌≡◌}
+use lib.ListN.{length}
+use Rattle.buffers.proofs.mark_bytes.Given as goal
+
+abbrev pub invariant-loop-i : goal.invariant-loop-i
+invariant-loop-i l = length l.columns ≡ length l.initial.columns
+
+abbrev pub decreases-loop-i : goal.decreases-loop-i
+decreases-loop-i l = l.end - l.i
