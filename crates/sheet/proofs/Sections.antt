@@ -25,7 +25,7 @@ use Rattle.soundness.specs.Read.Read.{sound, refused}
 use Rattle.sheet.specs.declared.Entry.TheVariants.{Terminal as Found, Nothing}
 use Rattle.sheet.specs.declared.Layout.{Layout}
 use Rattle.sheet.specs.declared.Opened.TheVariants.{Sound as Laid, Refused as Unsound}
-use Rattle.sheet.specs.Parts.{no_shape, shape, shape_of, layout_of, opened_as, opened_of, section_of}
+use Rattle.sheet.specs.Parts.{no_shape, shape_of, layout_of, opened_as, opened_of, section_of}
 use Rattle.sheet.specs.Parts.{section_at, nth, entry_of, entry_in, side_of, entry_as, entry_at}
 use Rattle.form.proofs.Forms.{Formed}
 use Rattle.soundness.proofs.Checks.{whole}
@@ -33,10 +33,12 @@ use Rattle.soundness.proofs.Laws.{sound-read, refused-read}
 
 -- the record at a place that there is, and nothing behind the last
 nth-found : (ts : List Terminal) (k : ℕ) → k < length ts → Found (record_of (get_or ts k no_terminal)) ≡ nth ts k
+nth-found [] k h = elim h [ ]
 nth-found (t ∷ ts) zero h = refl
 nth-found (t ∷ ts) (suc k) h = nth-found ts k (omega arith)
 
 nth_past : (ts : List Terminal) (k : ℕ) → length ts ≤ k → nth ts k ≡ Nothing
+nth_past (t ∷ ts) zero h = elim h [ ]
 nth_past [] k h = refl
 nth_past (t ∷ ts) (suc k) h = nth_past ts k (omega arith)
 

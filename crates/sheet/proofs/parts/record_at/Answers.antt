@@ -1,0 +1,15 @@
+-- `sheet::record_at` meets its contract: a record of a side is the record of its section.
+-- Assumes nothing.
+use mathlib.Core.Path.{◌∙◌, ap}
+use mathlib.Core.List.{List}
+use Prim.Native.Nat.{ℕ}
+use Rattle.sheet.specs.Parts.{entry_in}
+use Rattle.sheet.proofs.Sections.{entry-section}
+use Rattle.sheet.proofs.parts.record_at.Goals as goal
+
+pub returns : goal.returns
+returns c =
+    let a = c.args in
+    c.record_in.ensures
+    ∙ ap (λ (part : List ℕ). entry_in part a.place) c.section.ensures.bytes
+    ∙ entry-section a.s.now a.side a.place
