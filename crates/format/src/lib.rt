@@ -12,7 +12,7 @@ use terminal::Record;
 use trailer::Part;
 
 // The two sides of the channel.
-#[derive(Drop)]
+#[derive(Clone, Copy)]
 pub enum Side {
     Top,
     Bottom,
