@@ -8,14 +8,14 @@ ghost use Rattle.cut.specs.Counts.{stand_of, with_net, loads_at};
 use places::{NetPlaces, places_at};
 
 // Of one side: how many pins stand at or left of the column, and the net of the last of them.
-#[derive(Drop)]
+#[derive(Clone, Copy)]
 pub struct Stand {
     pub count: u16,
     pub net: u16,
 }
 
 // A cut: the two sides at one column.
-#[derive(Drop)]
+#[derive(Clone, Copy)]
 pub struct Cut {
     pub top: Stand,
     pub bottom: Stand,
