@@ -23,12 +23,14 @@ module _ (side : Side) (vs : List Visit) (next : Cursor) where
   step-within :
       (j : ℕ) (ts : List Terminal) (k : ℕ) → k < length ts
       → step_in (visits side j ts ++ vs) k next ≡ visit_of side (j + k) next (nth ts k)
+  step-within j [] k h = elim h [ ]
   step-within j (t ∷ ts) zero h = rw add-zero
   step-within j (t ∷ ts) (suc k) h =
       step-within (j + 1) ts k (omega arith) ∙ ap (λ (i : ℕ). visit_of side i next (nth ts k)) (omega arith)
 
   step_past :
       (j : ℕ) (ts : List Terminal) (k : ℕ) → length ts ≤ k → step_in (visits side j ts ++ vs) k next ≡ step_in vs (k - length ts) next
+  step_past j (t ∷ ts) zero h = elim h [ ]
   step_past j [] k h = rw sub-zero
   step_past j (t ∷ ts) (suc k) h = step_past (j + 1) ts k (omega arith) ∙ ap (λ (i : ℕ). step_in vs i next) (omega arith)
 
