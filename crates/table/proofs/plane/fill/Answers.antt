@@ -1,0 +1,14 @@
+use Prim.Native.Nat.{ℕ, ◌+◌}
+use mathlib.Core.Path.{◌∙◌, ap}
+use native.Mathlib.Omega.{arith}
+use Rattle.table.proofs.Planes.{filled_then, row_next}
+use Rattle.table.proofs.plane.fill.Goals as goal
+
+pub loop-i-preserved : goal.loop-i-preserved
+loop-i-preserved c =
+    let a = c.args in
+    let l = c.loop-i in (
+      omega (arith, c.loop-i-test.true),
+      ap (λ (k : ℕ). k + a.grid.stride) l.invariant.1 ∙ row_next a.grid l.i,
+      filled_then l.invariant.2 c.fill_row.ensures (omega arith),
+    )
