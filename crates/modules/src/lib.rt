@@ -16,7 +16,7 @@ pub struct Pin {
 
 // What stands before a module's pins: its width, its set of allowed left edges and the number of its pins; and where the pins start and
 // the module ends.
-#[derive(Drop)]
+#[derive(Clone, Copy)]
 pub struct Head {
     pub width: u8,
     pub edges: u64,
