@@ -6,7 +6,7 @@ ghost use Rattle.letters.specs.Letters.{has_pin, behind, written};
 
 // How far the walk has come: c columns are still to be lettered, i top and j bottom pins to be placed, and the pins
 // placed last stand in the columns top and bottom.
-#[derive(Drop)]
+#[derive(Clone, Copy)]
 pub struct Progress {
     pub c: usize,
     pub i: usize,
