@@ -8,7 +8,7 @@ ghost use Rattle.modules.specs.Bytes.{pin_size, pin_at, cut_head, head_in};
 use little::read_number;
 
 // A pin of a module: its offset from the module's left edge, at which the offset is 1, and its net.
-#[derive(Drop)]
+#[derive(Clone, Copy)]
 pub struct Pin {
     pub offset: u8,
     pub net: u16,
