@@ -157,6 +157,7 @@ pub walk_more :
     → letter ≡ choice_in work rules g p q m → m' ≡ behind letter m → columns' ≡ written p letter m columns
     → walk_columns work rules g p q (left - 1) m' columns' ≡ walk_columns work rules g p q left m columns
 unfolding walk_columns
+walk_more work rules g p q zero letter m m' columns columns' h e em ec = elim h [ ]
 walk_more work rules g p q (suc left) letter m m' columns columns' h e em ec =
     let less : suc left - 1 ≡ left = omega arith in
     rw (em, ec, e, less)
