@@ -7,7 +7,7 @@ use std::num::{wrapping_add_u64, wrapping_add_usize};
 use terminal::Record;
 
 // A command: where its name starts, where it ends, and where the next one starts.
-#[derive(Drop)]
+#[derive(Clone, Copy)]
 pub struct Command {
     pub word: u8,
     pub numbers: [u64; 6],
@@ -17,7 +17,7 @@ pub struct Command {
 }
 
 // The first six numbers of a command, those that are missing 0, and where they end.
-#[derive(Drop)]
+#[derive(Clone, Copy)]
 struct Numbers {
     found: [u64; 6],
     end: usize,

@@ -8,7 +8,7 @@ use fixtures::{Page, close, full_set, put_record};
 use terminal::Record;
 
 // L, p, q, and whether the bottom section comes first.
-#[derive(Drop)]
+#[derive(Clone, Copy)]
 pub struct Plan {
     columns: u8,
     top: u8,
@@ -17,7 +17,7 @@ pub struct Plan {
 }
 
 // A least and a greatest distance.
-#[derive(Drop)]
+#[derive(Clone, Copy)]
 struct Range {
     least: u8,
     greatest: u8,

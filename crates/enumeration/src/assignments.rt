@@ -5,7 +5,7 @@ use crate::words::letters;
 use crate::{List, Sheet, pins};
 
 // The best assignment: the number of its list, its density, whether another one has this density, and its word.
-#[derive(Drop)]
+#[derive(Clone, Copy)]
 pub struct Best {
     pub found: bool,
     pub list: u64,

@@ -21,7 +21,7 @@ pub const ROOM: usize = 9;
 pub type List = [u8; ROOM];
 
 // L, p, q, and the terminals, top before bottom.
-#[derive(Drop)]
+#[derive(Clone, Copy)]
 pub struct Sheet {
     pub columns: u8,
     pub top: u8,

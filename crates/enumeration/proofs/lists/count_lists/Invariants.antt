@@ -1,0 +1,10 @@
+-- `enumeration::lists::count_lists` is safe and ends: a turn for each terminal.
+-- Assumes nothing.
+use Rattle.std.proofs.Common.{◌-◌, rules}
+use Rattle.enumeration.proofs.lists.count_lists.Given as goal
+
+abbrev pub invariant-loop-t : goal.invariant-loop-t
+invariant-loop-t l = Unit {0}
+
+abbrev pub decreases-loop-t : goal.decreases-loop-t
+decreases-loop-t l = l.end - l.t
