@@ -4,6 +4,7 @@
 
 use measures::Tally;
 use printing::number;
+use std::io::{self, Write};
 use std::num::wrapping_add_u64;
 use trials::Trial;
 
@@ -16,7 +17,7 @@ const MEASUREMENTS: u64 = SHEETS * measures::LISTS as u64;
 
 // Of the sheets so far: those with a net that leaves the channel, those with an assignment, those with a tie, the tally of
 // the measured lists, and the sheets on which a call did not do what it must.
-#[derive(Drop)]
+#[derive(Clone, Copy)]
 struct Counts {
     leaving: u64,
     found: u64,
@@ -35,21 +36,21 @@ fn add(counts: Counts, trial: Trial) -> Counts {
     }
 }
 
-fn summary(counts: Counts) {
+fn summary<W: Write>(out: &mut W, counts: Counts) -> io::Result<()> {
     let tally = counts.tally;
-    number(b"", SHEETS);
-    number(b" sheets, ", counts.leaving);
-    number(b" with a net that leaves, ", counts.found);
-    number(b" with an assignment, ", counts.tied);
-    number(b" with a tie, ", MEASUREMENTS);
-    number(b" measurements, ", tally.assignments);
-    number(b" of an assignment, ", tally.short);
-    number(b" refused for a distance too short, ", tally.long);
-    number(b" for one too long, ", counts.wrong);
-    printing::text(b" differences\n");
+    number(out, b"", SHEETS)?;
+    number(out, b" sheets, ", counts.leaving)?;
+    number(out, b" with a net that leaves, ", counts.found)?;
+    number(out, b" with an assignment, ", counts.tied)?;
+    number(out, b" with a tie, ", MEASUREMENTS)?;
+    number(out, b" measurements, ", tally.assignments)?;
+    number(out, b" of an assignment, ", tally.short)?;
+    number(out, b" refused for a distance too short, ", tally.long)?;
+    number(out, b" for one too long, ", counts.wrong)?;
+    printing::text(out, b" differences\n")
 }
 
-fn compare_all(work: &mut [u16]) {
+fn compare_all<W: Write>(out: &mut W, work: &mut [u16]) -> io::Result<()> {
     let mut counts = Counts {
         leaving: 0,
         found: 0,
@@ -57,17 +58,15 @@ fn compare_all(work: &mut [u16]) {
         tally: measures::no_lists(),
         wrong: 0,
     };
-    let mut n: u64 = 0;
-    while n < SHEETS {
-        let trial = trials::try_sheet(n, work, counts.wrong < 5);
+    for n in 0..SHEETS {
+        let trial = trials::try_sheet(out, n, work, counts.wrong < 5)?;
         counts = add(counts, trial);
-        n += 1;
     }
-    summary(counts);
+    summary(out, counts)
 }
 
-fn main() {
+fn main(rt: HostRuntime) -> io::Result<()> {
     // 5 * 5 * 65 * 65 cells for the largest sheet, and some behind
     let mut work = [0u16; 105640];
-    compare_all(&mut work);
+    compare_all(&mut io::writer(&rt), &mut work)
 }

@@ -6,6 +6,7 @@ use drawn::{bits, draw, single};
 use enumeration::{List, ROOM, Sheet, pins};
 use fixtures::{Page, front};
 use format::RECORD;
+use std::io::{self, Write};
 use std::num::wrapping_add_u64;
 use trailer::TRAILER;
 
@@ -33,7 +34,7 @@ const CUT: u8 = 7;
 pub const LISTS: u8 = 8;
 
 // How many lists are assignments, and how many are refused for a distance that is too short or too long.
-#[derive(Drop)]
+#[derive(Clone, Copy)]
 pub struct Tally {
     pub assignments: u64,
     pub short: u64,
@@ -41,14 +42,14 @@ pub struct Tally {
 }
 
 // The tally of a sheet's lists, and whether one had a wrong answer.
-#[derive(Drop)]
+#[derive(Clone, Copy)]
 pub struct Measurements {
     pub tally: Tally,
     pub wrong: bool,
 }
 
 // A refusal's number and density 0, or 0 and the density; and the amount, which is 0 but with 14.
-#[derive(Drop)]
+#[derive(Clone, Copy)]
 struct Answer {
     number: u8,
     density: u64,
@@ -72,7 +73,7 @@ pub fn together(a: Tally, b: Tally) -> Tally {
 }
 
 // How many bytes of the sheet and columns of the list a call is lent.
-#[derive(Drop)]
+#[derive(Clone, Copy)]
 struct Lent {
     size: usize,
     columns: usize,
@@ -203,12 +204,31 @@ fn expected(k: u8, lent: Lent, case: Case, list: List) -> Answer {
     }
 }
 
-fn show(n: u64, wanted: Answer, given: Answer, list: List, columns: usize) {
-    printing::number(b"sheet ", n);
-    printing::columns(b" measured at", &list, columns);
-    printing::measurement(b": expected ", wanted.number, wanted.density, wanted.amount);
-    printing::measurement(b", measure ", given.number, given.density, given.amount);
-    printing::text(b"\n");
+fn show<W: Write>(
+    out: &mut W,
+    n: u64,
+    wanted: Answer,
+    given: Answer,
+    list: List,
+    columns: usize,
+) -> io::Result<()> {
+    printing::number(out, b"sheet ", n)?;
+    printing::columns(out, b" measured at", &list, columns)?;
+    printing::measurement(
+        out,
+        b": expected ",
+        wanted.number,
+        wanted.density,
+        wanted.amount,
+    )?;
+    printing::measurement(
+        out,
+        b", measure ",
+        given.number,
+        given.density,
+        given.amount,
+    )?;
+    printing::text(out, b"\n")
 }
 
 fn differ(a: Answer, b: Answer) -> bool {
@@ -216,7 +236,7 @@ fn differ(a: Answer, b: Answer) -> bool {
 }
 
 // Measures list k: its tally, and whether the answer is wrong.
-fn measure_one(k: u8, case: Case, page: &Page) -> Measurements {
+fn measure_one<W: Write>(out: &mut W, k: u8, case: Case, page: &Page) -> io::Result<Measurements> {
     let list = list_for(k, case);
     let lent = lent_for(k, case.sheet);
     let wanted = expected(k, lent, case, list);
@@ -229,28 +249,26 @@ fn measure_one(k: u8, case: Case, page: &Page) -> Measurements {
     };
     let wrong = differ(wanted, given);
     if wrong && case.shown {
-        show(case.n, wanted, given, list, lent.columns);
+        show(out, case.n, wanted, given, list, lent.columns)?;
     }
-    Measurements {
+    Ok(Measurements {
         tally: Tally {
             assignments: (wanted.number == 0) as u64,
             short: (wanted.amount < 0) as u64,
             long: (wanted.amount > 0) as u64,
         },
         wrong,
-    }
+    })
 }
 
 // Measures all lists of a sheet.
-pub fn measure_all(case: Case, page: &Page) -> Measurements {
+pub fn measure_all<W: Write>(out: &mut W, case: Case, page: &Page) -> io::Result<Measurements> {
     let mut tally = no_lists();
     let mut wrong = false;
-    let mut k: u8 = 0;
-    while k < LISTS {
-        let one = measure_one(k, case, page);
+    for k in 0..LISTS {
+        let one = measure_one(out, k, case, page)?;
         tally = together(tally, one.tally);
         wrong = wrong || one.wrong;
-        k += 1;
     }
-    Measurements { tally, wrong }
+    Ok(Measurements { tally, wrong })
 }

@@ -8,10 +8,11 @@ use drawn::draw;
 use enumeration::{Best, Sheet, pins};
 use fixtures::{PAGE, Page, front};
 use searched::Searched;
+use std::io::{self, Write};
 
 // Whether a net of the sheet leaves the channel, whether the sheet has an assignment, and more than one of the least
 // density, the tally of its measured lists, and whether a call did not do what it must.
-#[derive(Drop)]
+#[derive(Clone, Copy)]
 pub struct Trial {
     pub leaving: bool,
     pub found: bool,
@@ -21,7 +22,7 @@ pub struct Trial {
 }
 
 // A sheet with its number, the best of its lists, and whether a call that does not do what it must is shown.
-#[derive(Drop)]
+#[derive(Clone, Copy)]
 pub struct Case {
     pub n: u64,
     pub sheet: Sheet,
@@ -30,7 +31,7 @@ pub struct Case {
 }
 
 // How much of the sheet, of the column buffer and of the work buffer a call is lent.
-#[derive(Drop)]
+#[derive(Clone, Copy)]
 struct Lent {
     size: usize,
     bytes: usize,
@@ -39,7 +40,7 @@ struct Lent {
 
 // What a call must do: its refusal's number, 0 for none, its density, how many columns it writes and how many cells it
 // clears.
-#[derive(Drop)]
+#[derive(Clone, Copy)]
 struct Expected {
     number: u8,
     density: u64,
@@ -102,28 +103,39 @@ fn agrees(
 }
 
 // Both outcomes; where they are alike, a buffer is not left as it must be.
-fn show(n: u64, lent: Lent, expected: Expected, r: Searched, list: &[u8], columns: &[u8]) {
-    printing::number(b"sheet ", n);
+fn show<W: Write>(
+    out: &mut W,
+    n: u64,
+    lent: Lent,
+    expected: Expected,
+    r: Searched,
+    list: &[u8],
+    columns: &[u8],
+) -> io::Result<()> {
+    printing::number(out, b"sheet ", n)?;
     let wanted = expected.number;
     printing::outcome(
+        out,
         b", exhaustive: ",
         wanted,
         expected.density,
         list,
         expected.written,
-    );
+    )?;
     let density = searched::density_of(r) as u64;
     printing::outcome(
+        out,
         b"  search: ",
         searched::number_of(r),
         density,
         columns,
         lent.bytes,
-    );
+    )
 }
 
 // One call on sheet n; `list` has the columns that it is to write.
-fn call_agrees(
+fn call_agrees<W: Write>(
+    out: &mut W,
     n: u64,
     shown: bool,
     lent: Lent,
@@ -131,7 +143,7 @@ fn call_agrees(
     page: &Page,
     list: &[u8],
     work: &mut [u16],
-) -> bool {
+) -> io::Result<bool> {
     // the columns of eight terminals, and four to spare
     let mut columns = [0u8; 12];
     buffers::mark_bytes(&mut columns, lent.bytes);
@@ -141,14 +153,21 @@ fn call_agrees(
     let r = search::search(s, bytes, first_cells(work, lent.cells));
     let good = agrees(lent, expected, r, list, &columns, work);
     if !good && shown {
-        show(n, lent, expected, r, list, &columns);
+        show(out, n, lent, expected, r, list, &columns)?;
     }
-    good
+    Ok(good)
 }
 
 // The refusals: a sheet cut by a byte, a work buffer that is one too short, and that with a column buffer that is
 // one too short, if there are columns.
-fn refusals_agree(n: u64, shown: bool, lent: Lent, page: &Page, work: &mut [u16]) -> bool {
+fn refusals_agree<W: Write>(
+    out: &mut W,
+    n: u64,
+    shown: bool,
+    lent: Lent,
+    page: &Page,
+    work: &mut [u16],
+) -> io::Result<bool> {
     let cut = Lent {
         size: less(lent.size),
         bytes: lent.bytes,
@@ -167,14 +186,20 @@ fn refusals_agree(n: u64, shown: bool, lent: Lent, page: &Page, work: &mut [u16]
     // a trailer without its last byte is too short by itself, and has no mark behind a record
     let short = if lent.bytes == 0 { 1 } else { 2 };
     let both = if lent.bytes == 0 { 10 } else { 9 };
-    let a = call_agrees(n, shown, cut, refusal(short), page, page, work);
-    let b = call_agrees(n, shown, few, refusal(10), page, page, work);
-    let c = call_agrees(n, shown, fewer, refusal(both), page, page, work);
-    a && b && c
+    let a = call_agrees(out, n, shown, cut, refusal(short), page, page, work)?;
+    let b = call_agrees(out, n, shown, few, refusal(10), page, page, work)?;
+    let c = call_agrees(out, n, shown, fewer, refusal(both), page, page, work)?;
+    Ok(a && b && c)
 }
 
 // The answer, in buffers of the needed length or a little longer.
-fn answers_agree(case: Case, lent: Lent, page: &Page, work: &mut [u16]) -> bool
+fn answers_agree<W: Write>(
+    out: &mut W,
+    case: Case,
+    lent: Lent,
+    page: &Page,
+    work: &mut [u16],
+) -> io::Result<bool>
     requires { (lent.bytes ≤ 9) × (lent.cells ≤ 4294967296) }
 {
     let spare = draw(case.n, 30, 0, 0, 4) as usize;
@@ -186,11 +211,16 @@ fn answers_agree(case: Case, lent: Lent, page: &Page, work: &mut [u16]) -> bool
     let best = case.best;
     let list = enumeration::list_of(best.list, case.sheet);
     let expected = answer(best, lent.bytes, lent.cells);
-    call_agrees(case.n, case.shown, longer, expected, page, &list, work)
+    call_agrees(out, case.n, case.shown, longer, expected, page, &list, work)
 }
 
 // Every call on the sheet.
-pub fn try_sheet(n: u64, work: &mut [u16], shown: bool) -> Trial {
+pub fn try_sheet<W: Write>(
+    out: &mut W,
+    n: u64,
+    work: &mut [u16],
+    shown: bool,
+) -> io::Result<Trial> {
     let plan = drawn::plan_of(n);
     let sheet = drawn::sheet_of(n, plan);
     let mut page = [0u8; PAGE];
@@ -207,15 +237,15 @@ pub fn try_sheet(n: u64, work: &mut [u16], shown: bool) -> Trial {
         bytes: pins(sheet),
         cells: cells_of(sheet),
     };
-    let refusals = refusals_agree(n, shown, lent, &page, work);
-    let answers = answers_agree(case, lent, &page, work);
-    let measured = measures::measure_all(case, &page);
+    let refusals = refusals_agree(out, n, shown, lent, &page, work)?;
+    let answers = answers_agree(out, case, lent, &page, work)?;
+    let measured = measures::measure_all(out, case, &page)?;
     let tally = measured.tally;
-    Trial {
+    Ok(Trial {
         leaving: enumeration::leaving(sheet),
         found: best.found,
         tied: best.tied,
         tally,
         wrong: !refusals || !answers || measured.wrong,
-    }
+    })
 }

@@ -4,6 +4,7 @@ use buffers::{first_bytes, first_cells};
 use fixtures::{PAGE, Page, front};
 use search::Both;
 use searched::Searched;
+use std::io::{self, Write};
 
 // The columns of a sheet's four terminals and the work cells of six columns, and some behind.
 const BYTES: usize = 8;
@@ -11,7 +12,7 @@ const BYTES: usize = 8;
 const CELLS: usize = 450;
 
 // What the rules say of the two searches.
-#[derive(Drop)]
+#[derive(Clone, Copy)]
 pub enum Rule {
     NoHigher,
     Same,
@@ -20,7 +21,7 @@ pub enum Rule {
 
 // A form of sheet A: L, every terminal's set, the later ones' greatest distance, and the order of its sections. Then the
 // work cells that it needs, and the column bytes and the work cells that its search is lent.
-#[derive(Drop)]
+#[derive(Clone, Copy)]
 pub struct Form {
     columns: u8,
     set: u64,
@@ -51,7 +52,13 @@ pub fn in_buffers(form: Form, bytes: usize, cells: usize) -> Form {
     other
 }
 
-pub fn pair(title: &[u8], first: Form, second: Form, rule: Rule) {
+pub fn pair<W: Write>(
+    out: &mut W,
+    title: &[u8],
+    first: Form,
+    second: Form,
+    rule: Rule,
+) -> io::Result<()> {
     let mut c = [0u8; BYTES];
     let mut u = [0u16; CELLS];
     let mut d = [0u8; BYTES];
@@ -61,11 +68,15 @@ pub fn pair(title: &[u8], first: Form, second: Form, rule: Rule) {
     let both = search_both(first, &mut c, &mut u, second, &mut d, &mut v);
     let one = both.first;
     let two = both.second;
-    printing::text(title);
-    let first_left = answer(b"  first: ", one, first, &c, &u);
-    let second_left = answer(b"  second: ", two, second, &d, &v);
-    compare(rule, both);
-    printing::yes_or_no(b"  buffers as the rules say: ", first_left && second_left);
+    printing::text(out, title)?;
+    let first_left = answer(out, b"  first: ", one, first, &c, &u)?;
+    let second_left = answer(out, b"  second: ", two, second, &d, &v)?;
+    compare(out, rule, both)?;
+    printing::yes_or_no(
+        out,
+        b"  buffers as the rules say: ",
+        first_left && second_left,
+    )
 }
 
 // Searches both forms in the first parts of the buffers.
@@ -102,27 +113,35 @@ fn write(form: Form, page: &mut Page) -> usize {
 }
 
 // A search's line; whether it left its buffers as the rules say.
-fn answer(name: &[u8], answer: Searched, form: Form, columns: &[u8], work: &[u16]) -> bool {
+fn answer<W: Write>(
+    out: &mut W,
+    name: &[u8],
+    answer: Searched,
+    form: Form,
+    columns: &[u8],
+    work: &[u16],
+) -> io::Result<bool> {
     let refusal = searched::number_of(answer);
     printing::outcome(
+        out,
         name,
         refusal,
         searched::density_of(answer) as u64,
         columns,
         4,
-    );
-    buffers::left(refusal, 4, form.needed, columns, work)
+    )?;
+    Ok(buffers::left(refusal, 4, form.needed, columns, work))
 }
 
-fn compare(rule: Rule, both: Both) {
+fn compare<W: Write>(out: &mut W, rule: Rule, both: Both) -> io::Result<()> {
     let first = both.first;
     let second = both.second;
     let found = searched::number_of(first) == 0 && searched::number_of(second) == 0;
     let d = searched::density_of(first);
     let e = searched::density_of(second);
     match rule {
-        Rule::NoHigher => printing::yes_or_no(b"  the second no higher: ", found && e <= d),
-        Rule::Same => printing::yes_or_no(b"  the same density: ", found && e == d),
-        Rule::Nothing => printing::text(b"  no rule for the two densities\n"),
+        Rule::NoHigher => printing::yes_or_no(out, b"  the second no higher: ", found && e <= d),
+        Rule::Same => printing::yes_or_no(out, b"  the same density: ", found && e == d),
+        Rule::Nothing => printing::text(out, b"  no rule for the two densities\n"),
     }
 }

@@ -1,36 +1,36 @@
 // What a step finds, in a line of text.
 use cursor::{Step, Visit};
 use printing::{number, text};
+use std::io::{self, Write};
 
-pub fn step(found: Step) {
+pub fn step<W: Write>(out: &mut W, found: Step) -> io::Result<()> {
     match found {
-        Step::Terminal(v, _) => visit(v),
-        Step::Finished => text(b"  finished\n"),
+        Step::Terminal(v, _) => visit(out, v),
+        Step::Finished => text(out, b"  finished\n"),
     }
 }
 
-fn visit(v: Visit) {
-    text(b"  ");
+fn visit<W: Write>(out: &mut W, v: Visit) -> io::Result<()> {
+    text(out, b"  ")?;
     let side = v.side;
-    printing::place(side, v.place as u64);
+    printing::place(out, side, v.place as u64)?;
     let terminal = v.terminal;
-    printing::record(terminal);
-    columns(terminal.allowed);
-    text(b"\n");
+    printing::record(out, terminal)?;
+    columns(out, terminal.allowed)?;
+    text(out, b"\n")
 }
 
 // The columns of a set.
-fn columns(set: u64) {
+fn columns<W: Write>(out: &mut W, set: u64) -> io::Result<()> {
     if set == 0 {
-        text(b" none");
+        text(out, b" none")?;
     }
     let mut rest = set;
-    let mut c: u64 = 1;
-    while c <= 64 {
+    for c in 1..=64 {
         if rest % 2 == 1 {
-            number(b" ", c);
+            number(out, b" ", c)?;
         }
         rest = rest / 2;
-        c += 1;
     }
+    Ok(())
 }

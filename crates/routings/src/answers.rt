@@ -5,6 +5,7 @@ use enumeration::{ROOM, Routing, Span, Spans};
 use fixtures::{Page, front};
 use measured::Measured;
 use printing::number;
+use std::io::{self, Write};
 use tracked::Routed;
 
 fn measure_case(case: Case, page: &Page) -> Measured {
@@ -103,28 +104,27 @@ fn span_differs(a: Span, b: Span) -> bool {
     a.net != b.net || a.left != b.left || a.right != b.right || a.track != b.track
 }
 
-pub fn show(t: &[u8], routing: Routing) {
-    number(t, routing.number as u64);
-    printing::signed(b", amount ", routing.amount);
-    number(b", nets ", routing.nets as u64);
-    number(b", tracks ", routing.tracks as u64);
+pub fn show<W: Write>(out: &mut W, t: &[u8], routing: Routing) -> io::Result<()> {
+    number(out, t, routing.number as u64)?;
+    printing::signed(out, b", amount ", routing.amount)?;
+    number(out, b", nets ", routing.nets as u64)?;
+    number(out, b", tracks ", routing.tracks as u64)?;
     let spans = routing.spans;
-    show_spans(spans, routing.nets);
+    show_spans(out, spans, routing.nets)
 }
 
-fn show_spans(spans: Spans, nets: usize) {
-    let mut k = 0;
-    while k < ROOM {
+fn show_spans<W: Write>(out: &mut W, spans: Spans, nets: usize) -> io::Result<()> {
+    for k in 0..ROOM {
         if k < nets {
-            show_span(spans[k]);
+            show_span(out, spans[k])?;
         }
-        k += 1;
     }
+    Ok(())
 }
 
-fn show_span(span: Span) {
-    number(b", net ", span.net as u64);
-    number(b" from ", span.left as u64);
-    number(b" to ", span.right as u64);
-    number(b" on track ", span.track as u64);
+fn show_span<W: Write>(out: &mut W, span: Span) -> io::Result<()> {
+    number(out, b", net ", span.net as u64)?;
+    number(out, b" from ", span.left as u64)?;
+    number(out, b" to ", span.right as u64)?;
+    number(out, b" on track ", span.track as u64)
 }

@@ -10,7 +10,7 @@ use trailer::TRAILER;
 pub const LISTS: u8 = 10;
 
 // What kind of list is routed.
-#[derive(Drop)]
+#[derive(Clone, Copy)]
 pub enum Kind {
     // drawn columns that are allowed
     Allowed,
@@ -36,7 +36,7 @@ pub fn draw_kind(n: u64, k: u8) -> Kind {
 }
 
 // How many bytes of the sheet and columns of the list a call is lent.
-#[derive(Drop)]
+#[derive(Clone, Copy)]
 pub struct Lent {
     pub size: usize,
     pub columns: usize,

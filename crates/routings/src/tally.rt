@@ -4,7 +4,7 @@ use std::num::wrapping_add_u64;
 
 // All routings: those with tracks, refused with 18, with 9 and as a measurement is, and those that differ. Of the spans: how many there
 // are, those on track 0 and those of nets that leave the channel. The most tracks of a routing.
-#[derive(Drop)]
+#[derive(Clone, Copy)]
 pub struct Tally {
     pub routings: u64,
     pub routed: u64,

@@ -5,9 +5,10 @@ use crate::{answers, lists, tally};
 use drawn::{Plan, draw};
 use enumeration::{List, ROOM, Sheet, count_nets};
 use fixtures::{PAGE, Page, full_set};
+use std::io::{self, Write};
 
 // A sheet with its number, one of its lists, how much of both a call is lent, and room for so many spans.
-#[derive(Drop)]
+#[derive(Clone, Copy)]
 pub struct Case {
     pub n: u64,
     pub sheet: Sheet,
@@ -16,26 +17,26 @@ pub struct Case {
     pub room: usize,
 }
 
-fn show_case(case: Case) {
+fn show_case<W: Write>(out: &mut W, case: Case) -> io::Result<()> {
     let lent = case.lent;
     let list = case.list;
-    printing::number(b"sheet ", case.n);
-    printing::columns(b" routed at", &list, lent.columns);
-    printing::number(b" with room for ", case.room as u64);
+    printing::number(out, b"sheet ", case.n)?;
+    printing::columns(out, b" routed at", &list, lent.columns)?;
+    printing::number(out, b" with room for ", case.room as u64)
 }
 
 // One call, and what it must answer. The first five that do not are shown.
-fn try_case(case: Case, page: &Page, so_far: Tally) -> Tally {
+fn try_case<W: Write>(out: &mut W, case: Case, page: &Page, so_far: Tally) -> io::Result<Tally> {
     let wanted = answers::expected(case, page);
     let given = answers::given(case, page);
     let wrong = answers::differ(wanted, given) || !answers::dense(case, wanted);
     if wrong && so_far.wrong < 5 {
-        show_case(case);
-        answers::show(b": expected ", wanted);
-        answers::show(b"; route ", given);
-        printing::text(b"\n");
+        show_case(out, case)?;
+        answers::show(out, b": expected ", wanted)?;
+        answers::show(out, b"; route ", given)?;
+        printing::text(out, b"\n")?;
     }
-    tally::add(so_far, wanted, wrong)
+    Ok(tally::add(so_far, wanted, wrong))
 }
 
 // Room for too few spans, if there are nets, for as many as there are nets, or for more.
@@ -76,16 +77,14 @@ fn sheet_of(n: u64, plan: Plan) -> Sheet {
 }
 
 // Every list of sheet n.
-pub fn try_sheet(n: u64, so_far: Tally) -> Tally {
+pub fn try_sheet<W: Write>(out: &mut W, n: u64, so_far: Tally) -> io::Result<Tally> {
     let plan = drawn::plan_of(n);
     let sheet = sheet_of(n, plan);
     let mut page = [0u8; PAGE];
     drawn::write_sheet(plan, sheet, &mut page);
     let mut sum = so_far;
-    let mut k: u8 = 0;
-    while k < lists::LISTS {
-        sum = try_case(case_of(n, k, sheet), &page, sum);
-        k += 1;
+    for k in 0..lists::LISTS {
+        sum = try_case(out, case_of(n, k, sheet), &page, sum)?;
     }
-    sum
+    Ok(sum)
 }

@@ -1,6 +1,6 @@
 -- `drawn::sheets::sheet_of` is safe and ends: a turn for each terminal.
 -- Assumes nothing.
-use Rattle.std.proofs.Common.{◌-◌, rules}
+use Rattle.std.proofs.Common.{◌-◌}
 use Rattle.drawn.proofs.sheets.sheet_of.Given as goal
 
 abbrev pub invariant-loop-t : goal.invariant-loop-t

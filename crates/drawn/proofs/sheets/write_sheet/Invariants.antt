@@ -1,6 +1,6 @@
 -- `drawn::sheets::write_sheet` is safe and ends: a turn for each terminal.
 -- Assumes nothing.
-use Rattle.std.proofs.Common.{◌-◌, rules}
+use Rattle.std.proofs.Common.{◌-◌}
 use Rattle.drawn.proofs.sheets.write_sheet.Given as goal
 
 abbrev pub invariant-loop-t : goal.invariant-loop-t

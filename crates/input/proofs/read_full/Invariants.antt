@@ -1,0 +1,6 @@
+use Rattle.std.proofs.Common.{◌≤◌, length}
+use Rattle.input.proofs.read_full.Given as goal
+
+-- what is read is in the buffer
+abbrev pub invariant-loop : goal.invariant-loop
+invariant-loop g l = l.done ≤ length l.buffer
