@@ -1,16 +1,12 @@
-use Prim.Native.Nat.{ℕ, ◌+◌, ◌-◌, ◌≤◌, min, max}
-use mathlib.Core.Path.{◌≡◌, refl, sym, ◌∙◌, ap, ap₂}
+use Prim.Native.Nat.{ℕ, ◌≤◌, min, max}
+use mathlib.Core.Path.{◌≡◌, refl, sym, ◌∙◌, ap}
 use mathlib.Core.List.{List}
 use mathlib.Core.Bool.{Bool, true, false, cond}
 use native.Mathlib.Omega.{arith}
-use borrow.Author.Rules.{rules}
-use lib.ListN.{length, drop, get_or}
-use lib.Dec.{eqb}
 use Rattle.kind.specs.Kinds.{left_start, right_start}
 use Rattle.channel.specs.Density.{Pin}
 use Rattle.channel.specs.Spans.{end_from, leftmost, rightmost}
 use Rattle.ends.specs.Ends.{pins_of}
-use Rattle.ends.proofs.Scans.{end_more, end_past}
 use Rattle.ends.proofs.ends_of.Goals as goal
 
 -- a pin of the net picks each end anew, and any other keeps it

@@ -1,19 +1,11 @@
 -- `ends::ends_of` meets its contract. The loop's invariant: each end is the one so far, moved on by the pins that are left.
 -- The measure is how many they are.
 -- Assumes nothing.
-use Prim.Native.Nat.{ℕ, ◌+◌, ◌-◌, ◌≤◌, min, max}
-use mathlib.Core.Path.{◌≡◌, refl, sym, ◌∙◌, ap, ap₂}
-use mathlib.Core.List.{List}
-use mathlib.Core.Bool.{Bool, true, false, cond}
-use native.Mathlib.Omega.{arith}
-use borrow.Author.Rules.{rules}
-use lib.ListN.{length, drop, get_or}
-use lib.Dec.{eqb}
-use Rattle.kind.specs.Kinds.{left_start, right_start}
-use Rattle.channel.specs.Density.{Pin}
+use Prim.Native.Nat.{◌-◌, ◌≤◌, min, max}
+use mathlib.Core.Path.{◌≡◌}
+use lib.ListN.{length, drop}
 use Rattle.channel.specs.Spans.{end_from, leftmost, rightmost}
 use Rattle.ends.specs.Ends.{pins_of}
-use Rattle.ends.proofs.Scans.{end_more, end_past}
 use Rattle.ends.proofs.ends_of.Given as goal
 
 abbrev pub invariant-loop-i : goal.invariant-loop-i

@@ -1,11 +1,6 @@
-use Prim.Native.Nat.{◌-◌}
-use mathlib.Core.Path.{◌≡◌, refl}
 use native.Mathlib.Omega.{arith}
-use borrow.Author.Rules.{rules}
-use lib.ListN.{length, take, length-set}
-use Rattle.channel.specs.Cut.{nets as nets_of}
-use Rattle.format.specs.Parts.{terminals_in}
-use Rattle.nets.proofs.Nets.{nets-more, nets-all}
+use lib.ListN.{length-set}
+use Rattle.nets.proofs.Nets.{nets-more}
 use Rattle.nets.proofs.fill_nets.Goals as goal
 
 pub loop-i-preserved : goal.loop-i-preserved

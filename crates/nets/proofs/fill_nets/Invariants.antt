@@ -1,13 +1,10 @@
 -- `nets::fill_nets` meets its contract. The loop's invariant: the nets passed are stored. The measure is how many are left.
 -- Assumes nothing.
 use Prim.Native.Nat.{◌-◌}
-use mathlib.Core.Path.{◌≡◌, refl}
-use native.Mathlib.Omega.{arith}
-use borrow.Author.Rules.{rules}
-use lib.ListN.{length, take, length-set}
+use mathlib.Core.Path.{◌≡◌}
+use lib.ListN.{length, take}
 use Rattle.channel.specs.Cut.{nets as nets_of}
 use Rattle.format.specs.Parts.{terminals_in}
-use Rattle.nets.proofs.Nets.{nets-more, nets-all}
 use Rattle.nets.proofs.fill_nets.Given as goal
 
 abbrev pub invariant-loop-i : goal.invariant-loop-i

@@ -2,13 +2,11 @@
 -- are left. The measure is how many they are.
 -- Assumes nothing.
 use Prim.Native.Nat.{◌-◌}
-use mathlib.Core.Path.{◌≡◌, refl, sym, ◌∙◌, ap}
-use mathlib.Core.Bool.{Bool, ◌||◌, or_assoc, or-false}
-use native.Mathlib.Omega.{arith}
-use lib.ListN.{length, get_or, drop, drop_of_length-le}
+use mathlib.Core.Path.{◌≡◌}
+use mathlib.Core.Bool.{◌||◌}
+use lib.ListN.{length, drop}
 use lib.Dec.{eqb}
 use Rattle.channel.specs.Density.{any}
-use Rattle.nets.proofs.Nets.{any-more}
 use Rattle.nets.proofs.occurs.Given as goal
 
 abbrev pub invariant-loop-i : goal.invariant-loop-i

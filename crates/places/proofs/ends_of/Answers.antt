@@ -1,12 +1,8 @@
-use Prim.Native.Nat.{ℕ, ◌+◌, ◌≤◌, ◌-◌}
-use mathlib.Core.Path.{◌≡◌, sym, ap, ap₂, ◌∙◌}
+use Prim.Native.Nat.{ℕ}
+use mathlib.Core.Path.{ap, ap₂, ◌∙◌}
 use native.Mathlib.Omega.{arith}
-use borrow.Author.Rules.{rules}
-use lib.ListN.{length, drop}
 use Rattle.kind.specs.Kinds.{left_start, right_start}
-use Rattle.places.specs.declared.Ends.{Ends}
 use Rattle.places.specs.Places.{ends_from, ends_of}
-use Rattle.places.proofs.Sides.{ends_at, ends_done}
 use Rattle.places.proofs.ends_of.Goals as goal
 
 pub loop-i-init : goal.loop-i-init

@@ -1,15 +1,10 @@
 -- `places::ends_of` meets its contract. The loop's invariant: the ends so far, with the pins that are left, make the ends. The measure
 -- is how many are left.
 -- Assumes nothing.
-use Prim.Native.Nat.{ℕ, ◌+◌, ◌≤◌, ◌-◌}
-use mathlib.Core.Path.{◌≡◌, sym, ap, ap₂, ◌∙◌}
-use native.Mathlib.Omega.{arith}
-use borrow.Author.Rules.{rules}
+use Prim.Native.Nat.{◌≤◌, ◌-◌}
+use mathlib.Core.Path.{◌≡◌}
 use lib.ListN.{length, drop}
-use Rattle.kind.specs.Kinds.{left_start, right_start}
-use Rattle.places.specs.declared.Ends.{Ends}
 use Rattle.places.specs.Places.{ends_from, ends_of}
-use Rattle.places.proofs.Sides.{ends_at, ends_done}
 use Rattle.places.proofs.ends_of.Given as goal
 
 abbrev pub invariant-loop-i : goal.invariant-loop-i

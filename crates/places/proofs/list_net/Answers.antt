@@ -1,14 +1,12 @@
 -- `places::list_net` meets its contract: nothing is put where the net stands again, and its places where it does not.
 -- Assumes nothing.
-use mathlib.Core.Path.{sym, ap, ◌∙◌}
+use mathlib.Core.Path.{ap, ◌∙◌}
 use Prim.Native.Nat.{ℕ}
 use mathlib.Core.List.{List}
 use native.Mathlib.Omega.{arith}
-use lib.ListN.{get_or, take, drop, length-drop}
-use lib.Seq.{length-take-le}
+use lib.ListN.{get_or, take, drop}
 use Rattle.places.specs.Places.{places_of}
-use Rattle.places.proofs.Listing.{part_rest, put-none, put_one}
-use borrow.Author.Rules.{rules}
+use Rattle.places.proofs.Listing.{part_rest, put_one}
 use Rattle.places.proofs.list_net.Goals as goal
 
 pub returns : goal.returns

@@ -1,11 +1,6 @@
-use Prim.Native.Nat.{◌*◌, ◌≤◌, ◌-◌}
-use mathlib.Core.Path.{◌≡◌, refl, ◌∙◌}
-use mathlib.Core.List.{◌++◌}
+use mathlib.Core.Path.{◌∙◌}
 use native.Mathlib.Omega.{arith}
-use lib.ListN.{length, take, drop}
-use Rattle.channel.specs.Density.{distinct}
-use Rattle.places.specs.Places.{places_list}
-use Rattle.places.proofs.Listing.{put-more, put_rest, put_count, put_done}
+use Rattle.places.proofs.Listing.{put-more, put_rest, put_count}
 use Rattle.places.proofs.list_places.Goals as goal
 
 pub loop-m-preserved : goal.loop-m-preserved

@@ -2,13 +2,11 @@
 -- and what is behind them is as it was. The measure is how many nets are left.
 -- Assumes nothing.
 use Prim.Native.Nat.{◌*◌, ◌≤◌, ◌-◌}
-use mathlib.Core.Path.{◌≡◌, refl, ◌∙◌}
+use mathlib.Core.Path.{◌≡◌}
 use mathlib.Core.List.{◌++◌}
-use native.Mathlib.Omega.{arith}
 use lib.ListN.{length, take, drop}
 use Rattle.channel.specs.Density.{distinct}
 use Rattle.places.specs.Places.{places_list}
-use Rattle.places.proofs.Listing.{put-more, put_rest, put_count, put_done}
 use Rattle.places.proofs.list_places.Given as goal
 
 abbrev pub invariant-loop-m : goal.invariant-loop-m

@@ -1,9 +1,6 @@
 -- `places::write_places` meets its contract: five stores, one behind the other.
 -- Assumes nothing.
-use lib.ListN.{length-set}
-use native.Mathlib.Omega.{arith}
 use Rattle.places.proofs.Listing.{five_stored}
-use borrow.Author.Rules.{rules}
 use Rattle.places.proofs.write_places.Goals as goal
 
 pub returns : goal.returns
