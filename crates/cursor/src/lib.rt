@@ -10,13 +10,13 @@ use sheet::{Entry, record_at, shape_of};
 use terminal::Record;
 
 // How many terminals of a sheet have been passed, top then bottom.
-#[derive(Drop)]
+#[derive(Clone, Copy)]
 pub struct Cursor {
     pub passed: usize,
 }
 
 // One terminal of a sheet: its side, its place in that side's order from 1, and its record.
-#[derive(Drop)]
+#[derive(Clone, Copy)]
 pub struct Visit {
     pub side: Side,
     pub place: usize,
@@ -24,7 +24,7 @@ pub struct Visit {
 }
 
 // What a step finds: a terminal and the cursor past it, or the end.
-#[derive(Drop)]
+#[derive(Clone, Copy)]
 pub enum Step {
     Terminal(Visit, Cursor),
     Finished,

@@ -22,7 +22,7 @@ pub struct Cut {
 }
 
 // The loads of a column with a top pin only, a bottom pin only, and both.
-#[derive(Drop)]
+#[derive(Clone, Copy)]
 pub struct Loads {
     pub top: u8,
     pub bottom: u8,

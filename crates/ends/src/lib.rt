@@ -7,7 +7,7 @@ ghost use Rattle.ends.specs.Ends.{pins_of, ends_of};
 use kind::{kind_of, left_start, right_start};
 
 // The columns of a net's leftmost and rightmost pins; 0 and 255 where it leaves by that end.
-#[derive(Drop)]
+#[derive(Clone, Copy)]
 pub struct Ends {
     pub left: u8,
     pub right: u8,

@@ -14,7 +14,7 @@ use rules::{all_allowed, first_amount};
 use sheet::{Layout, Opened};
 
 // The answer of the check: an assignment, with the layout of its sheet, or the first refusal that applies.
-#[derive(Drop)]
+#[derive(Clone, Copy)]
 pub enum Listed {
     Assignment(Layout),
     Refused(ListRefusal),

@@ -8,7 +8,7 @@ use refusals::Refusal;
 
 // The length of the sheet that was written, or why there is none: its form or its nets would be refused, a module breaks its rule or has a
 // left edge outside the channel, or the sheet buffer is too short.
-#[derive(Drop)]
+#[derive(Clone, Copy)]
 pub enum Made {
     Written(usize),
     Sheet(Refusal),

@@ -7,7 +7,7 @@ ghost use Rattle.measured.specs.Numbers.{number_of, density_of, amount_of};
 use refusals::{ListRefusal, list_amount, list_number};
 
 // The density of a column list, or why it has none.
-#[derive(Drop)]
+#[derive(Clone, Copy)]
 pub enum Measured {
     Density(u32),
     Refused(ListRefusal),

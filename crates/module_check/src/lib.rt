@@ -9,7 +9,7 @@ use modules::{Head, PIN, head_in, pin_at};
 use terminal::names_above;
 
 // What 16, 17 and 6 ask of a side: its modules are valid, within the channel and named; and the number of its pins.
-#[derive(Drop)]
+#[derive(Clone, Copy)]
 pub struct Tests {
     pub pins: usize,
     pub valid: bool,
@@ -18,7 +18,7 @@ pub struct Tests {
 }
 
 // The tests of the pins of one module.
-#[derive(Drop)]
+#[derive(Clone, Copy)]
 struct PinTests {
     rising: bool,
     named: bool,

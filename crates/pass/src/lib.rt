@@ -15,7 +15,7 @@ use walk::walk;
 const MOST: u8 = 128;
 
 // What all passes go by: the table's measures, the numbers of pins and the length of the channel.
-#[derive(Drop)]
+#[derive(Clone, Copy)]
 pub struct Plan {
     pub grid: Grid,
     pub p: usize,
@@ -24,7 +24,7 @@ pub struct Plan {
 }
 
 // What the passes come to.
-#[derive(Drop)]
+#[derive(Clone, Copy)]
 pub enum Outcome {
     Least(u8),
     Nothing,

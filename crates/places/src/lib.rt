@@ -9,14 +9,14 @@ use nets::occurs;
 
 // The first and last place of a net on one side, from 1. A net that leaves at the left has first 0, one that leaves at the right last 255;
 // any other has 255 and 0 where it has no pin on the side.
-#[derive(Drop)]
+#[derive(Clone, Copy)]
 pub struct Ends {
     pub first: u16,
     pub last: u16,
 }
 
 // A net with its ends on the two sides.
-#[derive(Drop)]
+#[derive(Clone, Copy)]
 pub struct NetPlaces {
     pub net: u16,
     pub top: Ends,

@@ -8,7 +8,7 @@ ghost use Rattle.reader.specs.Reader.{step_at, passed_after, Stepped};
 use cursor::{Cursor, Step};
 
 // A sheet, and how many of its terminals have been passed.
-#[derive(Drop)]
+#[derive(Clone, Copy)]
 pub struct Reader<'a> {
     pub sheet: &'a [u8],
     pub passed: usize,

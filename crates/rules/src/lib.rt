@@ -16,7 +16,7 @@ use terminal::amount;
 
 // One terminal's words: bit e of the range is the distance e + 1, and bit x of the allowed set is the
 // column x plus the terminal's place.
-#[derive(Drop)]
+#[derive(Clone, Copy)]
 pub struct Rule {
     pub range: u64,
     pub allowed: u64,

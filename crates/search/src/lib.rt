@@ -11,7 +11,7 @@ use searched::Searched;
 use sheet::{Layout, Opened};
 
 // The answers of two searches.
-#[derive(Drop)]
+#[derive(Clone, Copy)]
 pub struct Both {
     pub first: Searched,
     pub second: Searched,

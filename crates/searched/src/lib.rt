@@ -8,7 +8,7 @@ use refusals::Refusal;
 
 // The least density, or why there is none: the sheet is refused, the column buffer or the work buffer is too short, or the sheet has no
 // assignment.
-#[derive(Drop)]
+#[derive(Clone, Copy)]
 pub enum Searched {
     Found(u8),
     Sheet(Refusal),

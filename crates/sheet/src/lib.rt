@@ -9,7 +9,7 @@ use terminal::Record;
 use trailer::Part;
 
 // The record at a place, or nothing where there is no such place.
-#[derive(Drop)]
+#[derive(Clone, Copy)]
 pub enum Entry {
     Terminal(Record),
     Nothing,
@@ -17,7 +17,7 @@ pub enum Entry {
 
 // L, p and q of a sound sheet, and what a search of it needs: work cells and column bytes.
 // All are 0 for a refused sheet.
-#[derive(Drop)]
+#[derive(Clone, Copy)]
 pub struct Shape {
     pub columns: usize,
     pub top: usize,
@@ -27,7 +27,7 @@ pub struct Shape {
 }
 
 // A sound sheet's shape, and where its two sections stand.
-#[derive(Drop)]
+#[derive(Clone, Copy)]
 pub struct Layout {
     pub shape: Shape,
     pub top: Part,
@@ -35,7 +35,7 @@ pub struct Layout {
 }
 
 // The answer of the sheet check, with the layout of a sound sheet.
-#[derive(Drop)]
+#[derive(Clone, Copy)]
 pub enum Opened {
     Sound(Layout),
     Refused(Refusal),

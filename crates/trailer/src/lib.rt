@@ -15,7 +15,7 @@ pub struct Part {
 }
 
 // The numbers of the trailer.
-#[derive(Drop)]
+#[derive(Clone, Copy)]
 pub struct Trailer {
     pub top: Part,
     pub bottom: Part,
