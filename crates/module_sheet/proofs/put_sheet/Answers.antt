@@ -1,0 +1,61 @@
+-- `module_sheet::put_sheet` meets its contract: the top section, the bottom section behind it, then the trailer.
+-- Assumes nothing.
+use Prim.Native.Nat.{ℕ, ◌*◌}
+use mathlib.Core.Path.{◌≡◌, sym, ◌∙◌, ap, ap₂}
+use mathlib.Core.List.{List, ◌++◌}
+use native.Mathlib.Omega.{arith}
+use lib.ListN.{length}
+use Rattle.text.proofs.Writes.{after, kept, same_text}
+use Rattle.trailer.specs.Trailer.{CP}
+use Rattle.format.specs.Format.{record_size}
+use Rattle.encode.specs.Encode.{section_bytes, trailer_bytes, top_first, sheet_bytes}
+use Rattle.encode.proofs.Lengths.{length-section}
+use Rattle.modules.specs.Modules.{Module, pin_count, side_terminals, module_sheet}
+use Rattle.modules.specs.Bytes.{modules_in}
+use Rattle.modules.proofs.Terminals.{length-terminals}
+use Rattle.module_sheet.proofs.put_sheet.Goals as goal
+
+-- how many bytes the section of a side takes
+length-side : (ms : List Module) → length (section_bytes (side_terminals ms)) ≡ record_size * pin_count ms
+length-side ms = length-section (side_terminals ms) ∙ ap (λ (n : ℕ). record_size * n) (length-terminals ms)
+
+-- the three make the sheet
+sheet-bytes :
+    (l p q : ℕ) (top bottom : List Module) → p ≡ pin_count top → q ≡ pin_count bottom
+    → section_bytes (side_terminals top) ++ section_bytes (side_terminals bottom) ++ trailer_bytes (top_first l p q) CP
+    ≡ sheet_bytes CP (module_sheet l top bottom)
+unfolding sheet_bytes
+sheet-bytes l p q top bottom e f =
+    ap₂ (λ (m n : ℕ). section_bytes (side_terminals top) ++ section_bytes (side_terminals bottom) ++ trailer_bytes (top_first l m n) CP)
+    (e ∙ sym (length-terminals top)) (f ∙ sym (length-terminals bottom))
+
+pub put_modules-end-requires : goal.put_modules-end-requires
+put_modules-end-requires c =
+    let top = c.put_modules-middle.ensures in (
+      c.requires.1,
+      omega (arith, top.place, kept top, length-side (modules_in c.args.top.now), c.requires.2, c.requires.3, c.requires.5),
+    )
+
+pub put_trailer-requires : goal.put_trailer-requires
+put_trailer-requires c =
+    let top = c.put_modules-middle.ensures in
+    let bottom = c.put_modules-end.ensures in
+    omega (
+      arith,
+      top.place,
+      kept top,
+      bottom.place,
+      kept bottom,
+      length-side (modules_in c.args.top.now),
+      length-side (modules_in c.args.bottom.now),
+      c.requires.2,
+      c.requires.3,
+      c.requires.5,
+    )
+
+pub returns : goal.returns
+returns c =
+    let a = c.args in
+    same_text
+    (sheet-bytes a.columns a.p a.q (modules_in a.top.now) (modules_in a.bottom.now) c.requires.2 c.requires.3)
+    (after (after c.put_modules-middle.ensures c.put_modules-end.ensures) c.put_trailer.ensures)
