@@ -1,9 +1,8 @@
-use Prim.Native.Nat.{◌≤◌, ◌-◌, ◌/◌}
-use mathlib.Core.Path.{◌≡◌, refl, sym, ap, ap₂, ◌∙◌}
+use Prim.Native.Nat.{◌/◌}
+use mathlib.Core.Path.{◌≡◌, ap, ◌∙◌}
 use native.Mathlib.Omega.{arith}
-use native.Mathlib.Numerals.{add-one}
 use lib.ListN.{length}
-use Rattle.cut.specs.Counts.{with_net, loads_to, loads_at}
+use Rattle.cut.specs.Counts.{loads_to, loads_at}
 use Rattle.cut.proofs.Crossings.{loads_small}
 use Rattle.cut.proofs.loads_at.Goals as goal
 

@@ -1,13 +1,9 @@
 -- `cut::loads_at` meets its contract. The loop's invariant: the loads are those of the first m nets' places. The measure is how many are
 -- left.
 -- Assumes nothing.
-use Prim.Native.Nat.{◌≤◌, ◌-◌, ◌/◌}
-use mathlib.Core.Path.{◌≡◌, refl, sym, ap, ap₂, ◌∙◌}
-use native.Mathlib.Omega.{arith}
-use native.Mathlib.Numerals.{add-one}
-use lib.ListN.{length}
-use Rattle.cut.specs.Counts.{with_net, loads_to, loads_at}
-use Rattle.cut.proofs.Crossings.{loads_small}
+use Prim.Native.Nat.{◌≤◌, ◌-◌}
+use mathlib.Core.Path.{◌≡◌}
+use Rattle.cut.specs.Counts.{loads_to}
 use Rattle.cut.proofs.loads_at.Given as goal
 
 abbrev pub invariant-loop-m : goal.invariant-loop-m

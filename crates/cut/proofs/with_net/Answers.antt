@@ -1,7 +1,6 @@
 -- `cut::with_net` meets its contract: the three tests of the net, each counted.
 -- Assumes nothing.
 use Rattle.cut.proofs.Crossings.{net_more}
-use borrow.Author.Rules.{rules}
 use Rattle.cut.proofs.with_net.Goals as goal
 
 pub returns : goal.returns

@@ -5,7 +5,6 @@ use Rattle.cut.specs.declared.Stand.{Stand}
 use Rattle.cut.specs.Counts.{loads_at}
 use Rattle.places.proofs.Listing.{listed_length}
 use Rattle.load.proofs.Table.{write_cell}
-use borrow.Author.Rules.{rules}
 use Rattle.load.proofs.write_cell.Goals as goal
 
 pub loads_at-requires : goal.loads_at-requires

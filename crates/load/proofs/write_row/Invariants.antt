@@ -1,11 +1,9 @@
 -- `load::write_row` meets its contract. The loop's invariant: the first j cells of the row are written. The measure is how many are left.
 -- Assumes nothing.
 use Prim.Native.Nat.{ℕ, ◌+◌, ◌≤◌, ◌<◌, ◌-◌}
-use mathlib.Core.Path.{◌≡◌, ◌∙◌}
-use native.Mathlib.Omega.{arith}
+use mathlib.Core.Path.{◌≡◌}
 use lib.ListN.{length}
 use Rattle.load.specs.Cuts.{Written}
-use Rattle.load.proofs.Table.{written_none, row_more}
 use Rattle.load.proofs.write_row.Given as goal
 
 abbrev pub invariant-loop-j : goal.invariant-loop-j

@@ -1,11 +1,8 @@
 -- `load::write_table` meets its contract. The loop's invariant: the first i rows are written. The measure is how many are left.
 -- Assumes nothing.
 use Prim.Native.Nat.{ℕ, ◌+◌, ◌≤◌, ◌<◌, ◌-◌}
-use mathlib.Core.Path.{◌∙◌}
-use native.Mathlib.Omega.{arith}
 use lib.ListN.{length}
 use Rattle.load.specs.Cuts.{Written}
-use Rattle.load.proofs.Table.{written_none, table_more, table_done}
 use Rattle.load.proofs.write_table.Given as goal
 
 abbrev pub invariant-loop-i : goal.invariant-loop-i

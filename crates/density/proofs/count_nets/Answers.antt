@@ -1,0 +1,20 @@
+use Prim.Native.Nat.{ℕ, ◌-◌}
+use mathlib.Core.Path.{◌≡◌, sym, ◌∙◌, ap}
+use mathlib.Core.Logic.{⊎_elim}
+use native.Mathlib.Omega.{arith}
+use borrow.Author.Rules.{rules}
+use borrow.Author.Tests.{not-true, not-false}
+use lib.ListN.{length, length-replicate}
+use Rattle.density.proofs.Sums.{Counted, counted_none, counts_small, counted_all, counted-later, counted-last}
+use Rattle.density.proofs.count_nets.Goals as goal
+
+pub loop-i-init : goal.loop-i-init
+loop-i-init c = (
+  ap length c.requires.2 ∙ length-replicate {A = ℕ} 256 0,
+  counted_none c.args.nets.now c.args.columns.now 256 c.args.counts.now c.requires.2,
+)
+
+pub count_net-requires : goal.count_net-requires
+count_net-requires c =
+    let l = c.loop-i in
+    (c.requires.0, l.invariant.0, counts_small c.args.nets.now c.args.columns.now l.i l.counts l.invariant.1 c.requires.1)
