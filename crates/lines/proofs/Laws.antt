@@ -24,6 +24,8 @@ one_more :
     (side : Side) (m : ℕ) (ts : List Terminal) (cs : List ℕ) (k : ℕ) → k < length cs
     → lines (take k (visits side m ts)) (take k cs) ++ entry_line side (m + k) (nth ts k) (get_or cs k 0)
     ≡ lines (take (suc k) (visits side m ts)) (take (suc k) cs)
+one_more side m [] [] k h = elim h [ ]
+one_more side m (t ∷ ts) [] k h = elim h [ ]
 one_more side m [] (c ∷ cs) zero h = refl
 one_more side m [] (c ∷ cs) (suc k) h = refl
 one_more side m (t ∷ ts) (c ∷ cs) zero h = rw add-zero (sym (append-nil _))
