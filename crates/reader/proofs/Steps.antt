@@ -39,6 +39,7 @@ take_next (v ∷ vs) (suc n) c = ap (v ∷◌) (take_next vs n c)
 
 -- past a list a step finds the end
 past_end : (vs : List Visit) (n : ℕ) (c : Cursor) → length vs ≤ n → step_in vs (length (take n vs)) c ≡ Finished
+past_end (v ∷ vs) zero c h = elim h [ ]
 past_end [] n c h = refl
 past_end (v ∷ vs) (suc n) c h = past_end vs n c (omega arith)
 

@@ -1,5 +1,5 @@
-// A reader of a sheet: it holds the sheet, and steps through its terminals, top then bottom. The borrow checker covers no
-// function over a struct that holds a reference, so those here are thin, and `step_at` and `passed_after` do the work.
+// A reader of a sheet: it holds the sheet, and steps through its terminals, top then bottom. The functions over a reader are thin:
+// `step_at` and `passed_after` do the work.
 #![tactic(auto)]
 
 ghost use Rattle.std.specs.Prelude.{◌≡◌};
