@@ -1,0 +1,19 @@
+-- `tracks::method::take_track` meets its contract: the right end is written at the lowest free track.
+-- Assumes nothing.
+use Prim.Native.Nat.{ℕ}
+use mathlib.Core.Path.{◌≡◌, ◌∙◌, ap}
+use mathlib.Core.Bool.{true}
+use mathlib.Core.List.{List}
+use native.Mathlib.Omega.{arith}
+use borrow.Author.Rules.{rules}
+use borrow.Author.Tests.{not-true, not-false}
+use lib.ListN.{set}
+use Rattle.tracks.proofs.Free.{place_set}
+use Rattle.tracks.proofs.method.take_track.Goals as goal
+
+pub returns-clause-ends : goal.returns-clause-ends
+returns-clause-ends c =
+    let x = c.args.x in
+    let ends : List ℕ = c.args.ends.now in
+    let some : x.counts ≡ true = not-false _ c.if-not-x.false in
+    rw some (ap (λ (k : ℕ). set ends k x.right) c.free_track-i.ensures ∙ place_set ends x.left x.right c.requires.0)
