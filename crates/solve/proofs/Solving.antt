@@ -34,7 +34,7 @@ use Rattle.pass.specs.declared.Plan.{Plan}
 use Rattle.pass.specs.declared.Outcome.{Outcome}
 use Rattle.pass.specs.declared.Outcome.TheVariants as outcome
 use Rattle.rules.specs.Sides.{SideRules}
-use Rattle.pass.specs.Pass.{AsksPass, feasible_in, Rising, Least, Placed, table_end}
+use Rattle.pass.specs.Pass.{AsksPass, feasible_in, Rising, Placed, table_end}
 use Rattle.agreement.specs.Ready.{SheetLoads, Ready}
 use Rattle.solve.specs.Buffers.{with_columns, cleared}
 use Rattle.solve.specs.Solved.{plan_of, AsksSolve, outcome_of, Worked, Solved}
