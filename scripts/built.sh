@@ -8,7 +8,7 @@ fail() {
 built() {
     file=$1
     shift
-    if [ -f "$file" ] && [ -z "$(find crates crates.txt -newer "$file")" ]; then return; fi
+    if [ -f "$file" ] && [ -z "$(find crates crates.txt -name out -prune -o -newer "$file" -print)" ]; then return; fi
     command -v rt >/dev/null || fail "$file has to be built, and the command 'rt' of the Rattle kit is not there"
     { mkdir -p target && : >"target/${0##*/}.began"; } || fail 'cannot write to target/'
     echo "${0##*/}: building $file, which takes some minutes where nothing is proved yet" >&2

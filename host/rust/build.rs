@@ -1,4 +1,4 @@
-//! Finds libcazdrob.a: in the folder that CAZDROB_LIB_DIR names, else where `rt staticlib cazdrob` writes it in this repository.
+//! Finds libcazdrob.a: in the folder that CAZDROB_LIB_DIR names, else where `scripts/archive` writes it in this repository.
 use std::env;
 use std::path::PathBuf;
 use std::process::exit;
@@ -12,7 +12,7 @@ fn main() {
     let archive = folder.join("libcazdrob.a");
     if !archive.is_file() {
         eprintln!(
-            "error: {} is missing: run 'rt staticlib cazdrob' at the root of the repository, \
+            "error: {} is missing: run 'scripts/archive' at the root of the repository, \
              or set CAZDROB_LIB_DIR to the folder of an installed libcazdrob.a",
             archive.display()
         );

@@ -1,5 +1,5 @@
-// The library's face for hosts: C functions that answer with document 01's numbers. include/cazdrob.h declares them. None asks
-// anything of its caller but what the types of its parameters say.
+// The library's face for hosts: functions that answer with document 01's numbers. `cazdrob_c` exports them to C, and
+// include/cazdrob.h declares them there. None asks anything of its caller but what the types of its parameters say.
 #![tactic(auto)]
 
 ghost use Rattle.std.specs.Prelude.{◌≡◌};
@@ -13,8 +13,7 @@ use refusals::Checked;
 use tracked::Routed;
 
 // The number of the sheet's refusal; 0 for a sound sheet.
-#[unsafe(no_mangle)]
-pub extern "C" fn cazdrob_check(s: &[u8]) -> u32
+pub fn cazdrob_check(s: &[u8]) -> u32
     ensures { result ≡ check_number (check_of s.now) }
 {
     let checked = soundness::check(s);
@@ -31,8 +30,7 @@ fn wide(x: u8) -> u32
 }
 
 // The work cells that a search of the sheet needs; 0 for a refused sheet.
-#[unsafe(no_mangle)]
-pub extern "C" fn cazdrob_cells(s: &[u8]) -> usize
+pub fn cazdrob_cells(s: &[u8]) -> usize
     ensures { result ≡ (shape_of s.now).cells }
 {
     let shape = sheet::shape_of(s);
@@ -41,8 +39,7 @@ pub extern "C" fn cazdrob_cells(s: &[u8]) -> usize
 
 // By how many columns the distance from the column before to this one is out of the range from least to greatest: 0 in range, negative
 // where it is too short, which is tried first, positive where it is too long.
-#[unsafe(no_mangle)]
-pub extern "C" fn cazdrob_distance(before: u8, column: u8, least: u8, greatest: u8) -> i32
+pub fn cazdrob_distance(before: u8, column: u8, least: u8, greatest: u8) -> i32
     ensures { result ≡ amount least greatest before column }
 {
     wide_amount(terminal::amount(before, column, least, greatest))
@@ -56,8 +53,7 @@ fn wide_amount(x: i16) -> i32
 
 // Measures a column list: 0 with its density, or the number of a refusal with density 0. With 14 comes the amount by which the first bad
 // pair's distance is out of range, with every other answer 0.
-#[unsafe(no_mangle)]
-pub extern "C" fn cazdrob_measure(
+pub fn cazdrob_measure(
     s: &[u8],
     columns: &[u8],
     density: &mut u32,
@@ -72,8 +68,7 @@ pub extern "C" fn cazdrob_measure(
 }
 
 // Finds the best assignment: 0 with its density and its columns, or the number of a refusal with density 0.
-#[unsafe(no_mangle)]
-pub extern "C" fn cazdrob_search(
+pub fn cazdrob_search(
     s: &[u8],
     columns: &mut [u8],
     work: &mut [u16],
@@ -90,8 +85,7 @@ pub extern "C" fn cazdrob_search(
 // Gives the nets of a clean assignment their tracks: 0 with the numbers of nets and tracks and a span for each net in front of the array,
 // or the number of a refusal with 0 nets and 0 tracks. With 14 comes the amount, with every other answer 0. The borrow checker covers no
 // function over a slice of structs, so this one is proved by a walk of its code, by hand.
-#[unsafe(no_mangle)]
-pub extern "C" fn cazdrob_tracks(
+pub fn cazdrob_tracks(
     s: &[u8],
     columns: &[u8],
     spans: &mut [Span],
@@ -126,8 +120,7 @@ fn wide_tracks(x: u16) -> u32
 
 // Turns two sides of modules into the sheet of a channel of so many columns: 0 with the sheet and its length, or the number of a refusal
 // with length 0.
-#[unsafe(no_mangle)]
-pub extern "C" fn cazdrob_modules(
+pub fn cazdrob_modules(
     length: usize,
     top: &[u8],
     bottom: &[u8],

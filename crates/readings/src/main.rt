@@ -5,8 +5,7 @@ use std::io::{self, Write};
 
 mod show;
 
-// A new reader, and as many steps of it as `steps` says. The borrow checker covers no function with a local that holds a
-// reference in a struct, so this one does nothing else.
+// A new reader, and as many steps of it as `steps` says.
 fn read<W: Write>(out: &mut W, s: &[u8], steps: usize) -> io::Result<()> {
     let mut reader = reader::new(s);
     for _ in 0..steps {
