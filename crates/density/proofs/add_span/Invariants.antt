@@ -2,11 +2,10 @@
 -- The measure is how many columns are left.
 -- Assumes nothing.
 use Prim.Native.Nat.{◌+◌, ◌-◌, ◌≤◌}
-use mathlib.Core.Path.{◌≡◌, refl}
-use native.Mathlib.Omega.{arith}
-use lib.ListN.{length, length-set}
+use mathlib.Core.Path.{◌≡◌}
+use lib.ListN.{length}
 use Rattle.density.specs.Counted.{Added}
-use Rattle.density.proofs.Sums.{up_to, added_none, added_next, added_more, added_all}
+use Rattle.density.proofs.Sums.{up_to}
 use Rattle.density.proofs.add_span.Given as goal
 
 abbrev pub invariant-loop-c : goal.invariant-loop-c

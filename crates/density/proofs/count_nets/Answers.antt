@@ -1,11 +1,7 @@
-use Prim.Native.Nat.{ℕ, ◌-◌}
-use mathlib.Core.Path.{◌≡◌, sym, ◌∙◌, ap}
-use mathlib.Core.Logic.{⊎_elim}
-use native.Mathlib.Omega.{arith}
-use borrow.Author.Rules.{rules}
-use borrow.Author.Tests.{not-true, not-false}
+use Prim.Native.Nat.{ℕ}
+use mathlib.Core.Path.{◌∙◌, ap}
 use lib.ListN.{length, length-replicate}
-use Rattle.density.proofs.Sums.{Counted, counted_none, counts_small, counted_all, counted-later, counted-last}
+use Rattle.density.proofs.Sums.{counted_none, counts_small}
 use Rattle.density.proofs.count_nets.Goals as goal
 
 pub loop-i-init : goal.loop-i-init

@@ -1,14 +1,10 @@
 -- `density::count_nets` meets its contract. The loop's invariant: the counts so far, with what the nets that are left still add, are the
 -- crossings. The measure is how many nets are left.
 -- Assumes nothing.
-use Prim.Native.Nat.{ℕ, ◌-◌}
-use mathlib.Core.Path.{◌≡◌, sym, ◌∙◌, ap}
-use mathlib.Core.Logic.{⊎_elim}
-use native.Mathlib.Omega.{arith}
-use borrow.Author.Rules.{rules}
-use borrow.Author.Tests.{not-true, not-false}
-use lib.ListN.{length, length-replicate}
-use Rattle.density.proofs.Sums.{Counted, counted_none, counts_small, counted_all, counted-later, counted-last}
+use Prim.Native.Nat.{◌-◌}
+use mathlib.Core.Path.{◌≡◌}
+use lib.ListN.{length}
+use Rattle.density.proofs.Sums.{Counted}
 use Rattle.density.proofs.count_nets.Given as goal
 
 abbrev pub invariant-loop-i : goal.invariant-loop-i

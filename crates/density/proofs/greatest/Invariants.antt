@@ -2,11 +2,9 @@
 -- The measure is how many columns are left.
 -- Assumes nothing.
 use Prim.Native.Nat.{ℕ, ◌-◌, ◌≤◌}
-use mathlib.Core.Path.{◌≡◌, refl, ◌∙◌, ap}
-use native.Mathlib.Omega.{arith}
+use mathlib.Core.Path.{◌≡◌}
 use lib.ListN.{get_or}
 use Rattle.channel.specs.Density.{maximum_to}
-use Rattle.density.proofs.Sums.{maximum_new, maximum_kept}
 use Rattle.density.proofs.greatest.Given as goal
 
 abbrev pub invariant-loop-c : goal.invariant-loop-c

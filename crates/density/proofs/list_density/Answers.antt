@@ -1,12 +1,11 @@
 -- `density::list_density` meets its contract: the greatest of the counts is the density.
 -- Assumes nothing.
-use borrow.Author.Rules.{rules}
-use Prim.Native.Nat.{ℕ, ◌≤◌, ◌<◌}
-use mathlib.Core.Path.{◌≡◌, refl, sym, ◌∙◌, ap, fun_ext, subst}
+use Prim.Native.Nat.{ℕ, ◌<◌}
+use mathlib.Core.Path.{◌≡◌, sym, ◌∙◌, ap, fun_ext}
 use mathlib.Core.List.{List, ◌++◌}
 use native.Mathlib.Omega.{arith}
-use lib.ListN.{length, length-append, take, drop, replicate}
-use lib.Seq.{length-take-le, take_at}
+use lib.ListN.{length, take, drop, replicate}
+use lib.Seq.{take_at}
 use Rattle.channel.specs.Density.{maximum_to}
 use Rattle.channel.specs.Cut.{nets}
 use Rattle.format.specs.Parts.{terminals_in}

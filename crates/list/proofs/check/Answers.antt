@@ -1,10 +1,7 @@
 -- `list::check` meets its contract: what the sheet layer refuses, then 12, then what the columns are answered.
 -- Assumes nothing.
-use mathlib.Core.Path.{◌≡◌, sym, ◌∙◌}
+use mathlib.Core.Path.{sym, ◌∙◌}
 use native.Mathlib.Omega.{arith}
-use Rattle.sheet.specs.declared.Opened.TheVariants.{Sound}
-use Rattle.sheet.specs.Parts.{opened_of}
-use borrow.Author.Rules.{rules}
 use Rattle.list.proofs.Columns.{sheet-refused, count-refused, counted, columns-checked}
 use Rattle.list.proofs.check.Goals as goal
 

@@ -1,10 +1,6 @@
 -- `list::check_columns` meets its contract: each answer is that of the first of the tests that refuses, else the assignment.
 -- Assumes nothing.
-use borrow.Author.Rules.{rules}
 use mathlib.Core.Path.{sym, ◌∙◌, ap}
-use native.Mathlib.Omega.{arith}
-use borrow.Author.Tests.{not-true, not-false}
-use lib.Seq.{length-take-le}
 use lib.IntN.{ℤ}
 use mir.Syntax.{w16}
 use mir.Val.{of_z}

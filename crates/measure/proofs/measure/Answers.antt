@@ -1,9 +1,6 @@
 -- `measure::measure` meets its contract: what the list's check refuses, then the density.
 -- Assumes nothing.
-use mathlib.Core.Path.{◌≡◌, sym, ◌∙◌}
-use borrow.Author.Rules.{rules}
-use Rattle.list.specs.declared.Listed.TheVariants.{Assignment}
-use Rattle.list.specs.Answer.{listed_of}
+use mathlib.Core.Path.{sym, ◌∙◌}
 use Rattle.measure.proofs.Measures.{list_refused, laid, density_counted}
 use Rattle.measure.proofs.measure.Goals as goal
 

@@ -1,9 +1,6 @@
 -- `tracks::route` meets its contract: what the list's check refuses, then the answer of an assignment.
 -- Assumes nothing.
-use mathlib.Core.Path.{◌≡◌, sym, ◌∙◌}
-use borrow.Author.Rules.{rules}
-use Rattle.list.specs.declared.Listed.TheVariants.{Assignment}
-use Rattle.list.specs.Answer.{listed_of}
+use mathlib.Core.Path.{sym, ◌∙◌}
 use Rattle.tracks.proofs.Sheets.{list_refused, laid, tracks_given}
 use Rattle.tracks.proofs.route.Goals as goal
 

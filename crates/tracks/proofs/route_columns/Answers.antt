@@ -4,9 +4,8 @@ use Prim.Native.Nat.{ℕ}
 use mathlib.Core.Path.{◌≡◌, sym, ◌∙◌, ap, subst}
 use mathlib.Core.List.{List, ◌++◌}
 use native.Mathlib.Omega.{arith}
-use borrow.Author.Rules.{rules}
-use lib.ListN.{length, length-append, take, drop, replicate}
-use lib.Seq.{length-take-le, take_at}
+use lib.ListN.{length, take, drop, replicate}
+use lib.Seq.{take_at}
 use Rattle.channel.specs.Sheet.{Terminal}
 use Rattle.channel.specs.Density.{Pin}
 use Rattle.channel.specs.Cut.{nets}

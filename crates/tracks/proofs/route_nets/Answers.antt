@@ -4,7 +4,6 @@ use Prim.Native.Nat.{ℕ, ◌≤◌, ◌<◌, ◌^◌}
 use mathlib.Core.Path.{◌≡◌, sym, ◌∙◌, ap, subst}
 use mathlib.Core.List.{List, map, ◌++◌}
 use native.Mathlib.Omega.{arith}
-use borrow.Author.Rules.{rules}
 use lib.ListN.{length, get_or, take, drop, replicate}
 use lib.Seq.{take_at}
 use Rattle.ends.specs.Ends.{pins_of}
@@ -12,7 +11,6 @@ use Rattle.left_edge.specs.declared.Span.{Span}
 use Rattle.left_edge.specs.Lists.{Each}
 use Rattle.left_edge.specs.Method.{left_edge}
 use Rattle.left_edge.specs.Spans.{spans_in}
-use Rattle.left_edge.proofs.Lists.{each_map}
 use Rattle.order.specs.Keys.{Columns, keys_by_left, interval_at}
 use Rattle.order.proofs.Keys.{Number, numbers_known}
 use Rattle.tracks.proofs.Answers.{gives_two_nets, gives-short, gives-tracks, keys_count, keys_few, keys_spans, keys_start}

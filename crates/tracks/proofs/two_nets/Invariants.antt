@@ -1,14 +1,13 @@
 -- `tracks::two_nets` meets its contract. The loop's invariant: a column has pins of two nets exactly if one was found so far, or a pin that
 -- is left stands where one of another net was seen. The measure is how many are left.
 -- Assumes nothing.
-use Prim.Native.Nat.{◌-◌, ◌<◌, ◌^◌}
-use mathlib.Core.Path.{◌≡◌, refl, sym, ◌∙◌, ap}
-use mathlib.Core.Bool.{Bool, ◌||◌, or_assoc, or-false}
-use native.Mathlib.Omega.{arith}
-use lib.ListN.{length, get_or, drop, length-set, drop_of_length-le}
+use Prim.Native.Nat.{◌-◌}
+use mathlib.Core.Path.{◌≡◌}
+use mathlib.Core.Bool.{◌||◌}
+use lib.ListN.{length, drop}
 use Rattle.ends.specs.Ends.{pins_of}
 use Rattle.left_edge.specs.Spans.{two_nets}
-use Rattle.tracks.proofs.Seen.{comes, comes-first, comes-more, columns_fit}
+use Rattle.tracks.proofs.Seen.{comes}
 use Rattle.tracks.proofs.two_nets.Given as goal
 
 abbrev pub invariant-loop-i : goal.invariant-loop-i

@@ -2,16 +2,11 @@
 -- left.
 -- The measure is how many they are.
 -- Assumes nothing.
-use Prim.Native.Nat.{◌+◌, ◌-◌, ◌≤◌}
-use mathlib.Core.Path.{◌≡◌, refl, sym, ◌∙◌, ap}
-use mathlib.Core.Bool.{Bool, ◌&&◌}
-use native.Mathlib.Omega.{arith}
-use borrow.Author.Rules.{rules}
-use borrow.Author.Tests.{not-true, not-false}
+use Prim.Native.Nat.{◌-◌, ◌≤◌}
+use mathlib.Core.Path.{◌≡◌}
 use lib.ListN.{length, drop}
 use Rattle.format.specs.Parts.{terminals_in}
 use Rattle.list.specs.Answer.{side_allowed}
-use Rattle.list.proofs.Scans.{allowed-more, allowed_past}
 use Rattle.list.proofs.rules.all_allowed.Given as goal
 
 abbrev pub invariant-loop-i : goal.invariant-loop-i

@@ -2,22 +2,14 @@
 -- are left. The outer loop's: what is still to be said of the list is said by the sides that are left. In both nothing was found yet. The
 -- measures are how many are left.
 -- Assumes nothing.
-use Prim.Native.Nat.{ℕ, ◌+◌, ◌-◌, ◌≤◌}
-use mathlib.Core.Path.{◌≡◌, refl, sym, ◌∙◌, ap, ap₂}
-use mathlib.Core.List.{List}
-use native.Mathlib.Omega.{arith}
-use borrow.Author.Rules.{rules}
-use lib.IntN.{ℤ, pos}
+use Prim.Native.Nat.{◌-◌, ◌≤◌}
+use mathlib.Core.Path.{◌≡◌}
+use lib.IntN.{pos}
 use lib.ListN.{length, get_or, drop}
-use mir.Syntax.{w16}
-use mir.Val.{to_z, of_z}
-use mir.Facts.{to_z-of_z}
 use Rattle.format.specs.Parts.{terminals_in}
-use Rattle.terminal.proofs.Laws.{zero_bits}
-use Rattle.list.specs.Answer.{first_of, later_amount, side_amount}
-use Rattle.list.proofs.Amounts.{first_found}
-use Rattle.list.proofs.Scans.{amount-more, amount_past, amount-first, amount_at, side_same}
-use Rattle.list.proofs.Scans.{from_side, from_past, from-none, from_found}
+use Rattle.list.specs.Answer.{later_amount, side_amount}
+use Rattle.list.proofs.Scans.{amount_at}
+use Rattle.list.proofs.Scans.{from_side}
 use Rattle.list.proofs.rules.first_amount.Given as goal
 
 abbrev pub invariant-loop-i : goal.invariant-loop-i

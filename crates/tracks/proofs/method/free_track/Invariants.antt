@@ -1,12 +1,10 @@
 -- `tracks::method::free_track` meets its contract. The loop's invariant: the tracks before the i-th reach the column.
 -- The measure is how many more of the first ones do.
 -- Assumes nothing.
-use Prim.Native.Nat.{◌+◌, ◌<◌}
+use Prim.Native.Nat.{◌+◌}
 use mathlib.Core.Path.{◌≡◌}
-use native.Mathlib.Omega.{arith}
-use lib.ListN.{length, drop}
+use lib.ListN.{drop}
 use Rattle.left_edge.specs.Method.{passed}
-use Rattle.tracks.proofs.Free.{passed-more, passed_stop}
 use Rattle.tracks.proofs.method.free_track.Given as goal
 
 abbrev pub invariant-loop-i : goal.invariant-loop-i

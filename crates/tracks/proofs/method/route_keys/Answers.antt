@@ -1,15 +1,8 @@
-use Prim.Native.Nat.{ℕ, ◌-◌, ◌≤◌, max}
-use mathlib.Core.Path.{◌≡◌, sym, ◌∙◌, ap}
-use mathlib.Core.List.{◌++◌, map}
+use Prim.Native.Nat.{ℕ, max}
+use mathlib.Core.Path.{◌∙◌, ap}
 use native.Mathlib.Omega.{arith}
-use borrow.Author.Rules.{rules}
-use lib.ListN.{length, drop}
 use Rattle.left_edge.specs.declared.Interval.{Interval}
-use Rattle.left_edge.specs.Method.{left_edge}
-use Rattle.order.specs.Keys.{interval_at}
-use Rattle.tracked.specs.declared.Tracked.TheVariants.{Tracks}
-use Rattle.tracks.specs.Answer.{no_spans}
-use Rattle.tracks.proofs.OnTracks.{OnTracks, on_none, free, on-next, on-all}
+use Rattle.tracks.proofs.OnTracks.{on_none, free, on-next}
 use Rattle.tracks.proofs.method.route_keys.Goals as goal
 
 pub loop-i-init : goal.loop-i-init
