@@ -1,0 +1,10 @@
+-- `routings::lists::draw_list` is safe and ends: a turn for each terminal.
+-- Assumes nothing.
+use Rattle.std.proofs.Common.{◌-◌}
+use Rattle.routings.proofs.lists.draw_list.Given as goal
+
+abbrev pub invariant-loop-t : goal.invariant-loop-t
+invariant-loop-t l = Unit {0}
+
+abbrev pub decreases-loop-t : goal.decreases-loop-t
+decreases-loop-t l = l.end - l.t
