@@ -53,12 +53,7 @@ fn wide_amount(x: i16) -> i32
 
 // Measures a column list: 0 with its density, or the number of a refusal with density 0. With 14 comes the amount by which the first bad
 // pair's distance is out of range, with every other answer 0.
-pub fn cazdrob_measure(
-    s: &[u8],
-    columns: &[u8],
-    density: &mut u32,
-    amount: &mut i32,
-) -> u32
+pub fn cazdrob_measure(s: &[u8], columns: &[u8], density: &mut u32, amount: &mut i32) -> u32
     ensures { HostMeasures s.now columns.now density.new amount.new result }
 {
     let answer = measure::measure(s, columns);
@@ -68,12 +63,7 @@ pub fn cazdrob_measure(
 }
 
 // Finds the best assignment: 0 with its density and its columns, or the number of a refusal with density 0.
-pub fn cazdrob_search(
-    s: &[u8],
-    columns: &mut [u8],
-    work: &mut [u16],
-    density: &mut u32,
-) -> u32
+pub fn cazdrob_search(s: &[u8], columns: &mut [u8], work: &mut [u16], density: &mut u32) -> u32
     ensures { HostSearches s.now columns.old work.old
         columns.new work.new density.new result }
 {
@@ -83,8 +73,7 @@ pub fn cazdrob_search(
 }
 
 // Gives the nets of a clean assignment their tracks: 0 with the numbers of nets and tracks and a span for each net in front of the array,
-// or the number of a refusal with 0 nets and 0 tracks. With 14 comes the amount, with every other answer 0. The borrow checker covers no
-// function over a slice of structs, so this one is proved by a walk of its code, by hand.
+// or the number of a refusal with 0 nets and 0 tracks. With 14 comes the amount, with every other answer 0.
 pub fn cazdrob_tracks(
     s: &[u8],
     columns: &[u8],
