@@ -1,2 +1,2 @@
 pub mod Rules
-pub mod Loads
+pub mod Cuts

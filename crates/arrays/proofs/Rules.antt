@@ -1,15 +1,6 @@
 -- Laws of the words of a terminal: what is put in is read again, and the words of every other terminal are as they were.
 -- Assumes nothing.
-use Prim.Native.Nat.{ℕ, ◌+◌, ◌-◌, ◌/◌, ◌%◌, ◌≤◌, ◌<◌}
-use mathlib.Core.Path.{◌≡◌, refl, ◌∙◌}
-use mathlib.Core.List.{List}
-use mathlib.Core.Bool.{Bool, true, false}
-use mathlib.Core.Logic.{◌⊎◌, inl, inr}
-use native.Mathlib.Omega.{arith}
-use lib.ListN.{length, set, length-set}
-use lib.Seq.{get_or-set_same, get_or-set_other}
-use lib.Dec.{ltb}
-use borrow.Author.Tests.{ltb-true, ltb-false}
+use Rattle.std.proofs.Common.{ℕ, ◌+◌, ◌-◌, ◌/◌, ◌%◌, ◌≤◌, ◌<◌, ◌≡◌, refl, ◌∙◌, List, Bool, true, false, ◌⊎◌, inl, inr, arith, length, set, length-set, get_or-set_same, get_or-set_other, ltb, ltb-true, ltb-false}
 use Rattle.arrays.specs.Rules.{pins, rule_words, range_place, allowed_place, range_at, allowed_at, put_rule}
 
 -- every word is one of some terminal's, so that what is said of all terminals is said of every word

@@ -14,52 +14,85 @@ const SIDE: usize = 128;
 // The cuts with one number of top pins.
 const CUTS: usize = 65;
 
-// The words of both sides' rules, and the loads of all cuts.
+// The words of both sides' rules, and the bytes of the loads of all cuts.
 pub const RULES: usize = 256;
 
 pub const LOADS: usize = 12675;
 
-// The distances in range of the i-th terminal, from 1, of a side, 0 top and 1 bottom.
-pub fn range(rules: &[u64], side: usize, i: usize) -> u64
-    requires { (length rules.now ≡ rule_words) × (side ≤ 1) × (1 ≤ i) × (i ≤ pins) }
-    ensures { result ≡ range_at rules.now side i }
-{
-    rules[SIDE * side + (i - 1)]
+// The rules of both sides' terminals.
+#[derive(Drop)]
+pub struct RuleTable {
+    pub words: [u64; RULES],
 }
 
-// Its allowed columns.
-pub fn allowed(rules: &[u64], side: usize, i: usize) -> u64
-    requires { (length rules.now ≡ rule_words) × (side ≤ 1) × (1 ≤ i) × (i ≤ pins) }
-    ensures { result ≡ allowed_at rules.now side i }
-{
-    rules[SIDE * side + (i - 1) + PINS]
+impl RuleTable {
+    // The distances in range of the i-th terminal, from 1, of a side, 0 top and 1 bottom.
+    pub fn range(&self, side: usize, i: usize) -> u64
+        requires { (side ≤ 1) × (1 ≤ i) × (i ≤ pins) }
+        ensures { result ≡ range_at self.now.words side i }
+    {
+        self.words[SIDE * side + (i - 1)]
+    }
+
+    // Its allowed columns.
+    pub fn allowed(&self, side: usize, i: usize) -> u64
+        requires { (side ≤ 1) × (1 ≤ i) × (i ≤ pins) }
+        ensures { result ≡ allowed_at self.now.words side i }
+    {
+        self.words[SIDE * side + (i - 1) + PINS]
+    }
+
+    // Puts in its two words.
+    pub fn put(&mut self, side: usize, i: usize, range: u64, allowed: u64)
+        requires { (side ≤ 1) × (1 ≤ i) × (i ≤ pins) }
+        ensures words { self.new.words ≡ put_rule self.old.words side i range allowed }
+        ensures size { length self.new.words ≡ rule_words }
+    {
+        let at = SIDE * side + (i - 1);
+        self.words[at] = range;
+        self.words[at + PINS] = allowed;
+    }
 }
 
-// Puts in its two words.
-pub fn put_rule(rules: &mut [u64], side: usize, i: usize, range: u64, allowed: u64)
-    requires { (length rules.old ≡ rule_words) × (side ≤ 1) × (1 ≤ i) × (i ≤ pins) }
-    ensures { rules.new ≡ put_rule rules.old side i range allowed }
-{
-    let at = SIDE * side + (i - 1);
-    rules[at] = range;
-    rules[at + PINS] = allowed;
+// The loads of a column with a top pin only, a bottom pin only, and both.
+#[derive(Clone, Copy)]
+pub struct Loads {
+    pub top: u8,
+    pub bottom: u8,
+    pub both: u8,
 }
 
-// The load of a column of the cut (i, j), with a top pin only, a bottom pin only, or both: 0, 1, 2.
-pub fn load(loads: &[u8], i: usize, j: usize, letter: usize) -> u8
-    requires { (length loads.now ≡ load_bytes) × (i ≤ pins) × (j ≤ pins) × (letter ≤ 2) }
-    ensures { result ≡ load_at loads.now i j letter }
-{
-    loads[3 * (CUTS * i + j) + letter]
+// The loads of all cuts.
+#[derive(Drop)]
+pub struct LoadTable {
+    pub bytes: [u8; LOADS],
 }
 
-// Puts in the three loads of the cut (i, j).
-pub fn put_loads(loads: &mut [u8], i: usize, j: usize, top: u8, bottom: u8, both: u8)
-    requires { (length loads.old ≡ load_bytes) × (i ≤ pins) × (j ≤ pins) }
-    ensures { loads.new ≡ put_loads loads.old i j top bottom both }
-{
-    let at = 3 * (CUTS * i + j);
-    loads[at] = top;
-    loads[at + 1] = bottom;
-    loads[at + 2] = both;
+impl LoadTable {
+    // The loads of a column of the cut (i, j).
+    pub fn at(&self, i: usize, j: usize) -> Loads
+        requires { (i ≤ pins) × (j ≤ pins) }
+        ensures top { result.top ≡ load_at self.now.bytes i j 0 }
+        ensures bottom { result.bottom ≡ load_at self.now.bytes i j 1 }
+        ensures both { result.both ≡ load_at self.now.bytes i j 2 }
+    {
+        let at = 3 * (CUTS * i + j);
+        Loads {
+            top: self.bytes[at],
+            bottom: self.bytes[at + 1],
+            both: self.bytes[at + 2],
+        }
+    }
+
+    // Puts in the three loads of the cut (i, j).
+    pub fn put(&mut self, i: usize, j: usize, loads: Loads)
+        requires { (i ≤ pins) × (j ≤ pins) }
+        ensures bytes { self.new.bytes ≡ put_loads self.old.bytes i j loads.top loads.bottom loads.both }
+        ensures size { length self.new.bytes ≡ load_bytes }
+    {
+        let here = 3 * (CUTS * i + j);
+        self.bytes[here] = loads.top;
+        self.bytes[here + 1] = loads.bottom;
+        self.bytes[here + 2] = loads.both;
+    }
 }

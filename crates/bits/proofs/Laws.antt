@@ -1,16 +1,11 @@
 -- How the bits of a word go through or, and, shifts and remainders.
 -- Assumes nothing.
-use Prim.Native.Nat.{ℕ, zero, suc, ◌+◌, ◌-◌, ◌*◌, ◌/◌, ◌%◌, ◌^◌, ◌≤◌, ◌<◌}
-use mathlib.Core.Path.{◌≡◌, refl, sym, ◌∙◌, ap}
-use mathlib.Core.Bool.{Bool, true, false, ◌&&◌, ◌||◌, true≢false}
-use mathlib.Core.Logic.{◌⊎◌, inl, inr}
-use native.Mathlib.Omega.{arith}
-use native.Mathlib.Nat.{div-eq_of_lt, div-one, lt_of_lt_of_le, mul_assoc}
-use lib.Dec.{leb, ltb, eqb}
+use Rattle.std.proofs.Common.{◌≡◌, ℕ, zero, suc, ◌+◌, ◌-◌, ◌*◌, ◌/◌, ◌%◌, ◌^◌, ◌<◌, ◌≤◌, Bool, true, false, ◌&&◌, ◌||◌, eqb, ltb, leb, ◌⊎◌, sym, refl, ap, ◌∙◌, inl, inr, true≢false, lt_of_lt_of_le, mul_assoc, div-one, arith, pow_pos, pow_mono, pow-add, shr-shr, ltb-false, ltb-true, eq-eqb, ne_eqb, eqb-true, leb-false, leb-true}
+use native.Mathlib.Nat.{div-eq_of_lt}
 use lib.Bits.{bit_and, bit_or, and_mod, or_mod, and_shr, or_shr}
 use lib.Count.{count_trailing_zeros, under}
-use lib.Pow.{pow_pos, pow_mono, pow-add, shl-shr, shr-shr, field, mod-mod-pow, ones_split, ones_lt, high}
-use borrow.Author.Tests.{leb-true, leb-false, ltb-true, ltb-false, eq-eqb, ne_eqb, eqb-true, eqb-false}
+use lib.Pow.{shl-shr, field, mod-mod-pow, ones_split, ones_lt, high}
+use borrow.Author.Tests.{eqb-false}
 use Rattle.channel.proofs.Below.{any_below_cong, any_below-from, any_below-none}
 use Rattle.channel.proofs.Sets.{bit_of_lem}
 use Rattle.bits.specs.Bits.{bit_of, in_word}

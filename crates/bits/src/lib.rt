@@ -30,9 +30,9 @@ pub fn below(k: usize) -> u64
         return 0;
     }
     if 64 <= k {
-        return 18446744073709551615;
+        return u64::MAX;
     }
-    18446744073709551615u64 >> (64 - k)
+    u64::MAX >> (64 - k)
 }
 
 // The numbers from k on.
@@ -42,7 +42,7 @@ pub fn from(k: usize) -> u64
     if 64 <= k {
         return 0;
     }
-    (18446744073709551615u64 >> k) << k
+    (u64::MAX >> k) << k
 }
 
 // What both sets hold, and what either does.
@@ -62,5 +62,5 @@ pub fn either(a: u64, b: u64) -> u64
 pub fn lowest(w: u64) -> usize
     ensures { (result ≤ 64) × (result < 64 → bit_of w result ≡ true) × ((n : ℕ) → n < result → bit_of w n ≡ false) }
 {
-    u64::trailing_zeros(w) as usize
+    w.trailing_zeros() as usize
 }

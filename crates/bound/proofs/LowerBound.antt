@@ -1,16 +1,9 @@
 -- Laws of the lower bound: how it comes from those before it, why no bound below it places the pins (a place that is reached under a
 -- bound was reached from the planes before it, and its load is within the bound), and the row of it that the code keeps.
 -- Assumes nothing.
-use Prim.Native.Nat.{ℕ, zero, suc, ◌+◌, ◌-◌, ◌≤◌, ◌<◌, min, max}
-use mathlib.Core.Path.{◌≡◌, refl, sym, ◌∙◌, ap}
-use mathlib.Core.List.{List}
-use mathlib.Core.Bool.{Bool, true, false, ◌&&◌, and-false}
-use mathlib.Core.Logic.{◌⊎◌, inl, inr}
-use native.Mathlib.Omega.{arith}
-use lib.ListN.{length, get_or, set, length-set}
-use lib.Seq.{get_or-set_same, get_or-set_other}
-use lib.Dec.{leb, ltb, eqb}
-use borrow.Author.Tests.{ltb-true, ltb-false, lt-leb, le-ltb, eq-eqb, ne_eqb, eqb-true, eqb-false}
+use Rattle.std.proofs.Common.{ℕ, zero, suc, ◌+◌, ◌-◌, ◌≤◌, ◌<◌, min, max, ◌≡◌, refl, sym, ◌∙◌, ap, List, Bool, true, false, ◌&&◌, ◌⊎◌, inl, inr, arith, length, get_or, set, length-set, get_or-set_same, get_or-set_other, leb, ltb, eqb, ltb-true, ltb-false, le-ltb, eq-eqb, ne_eqb, eqb-true}
+use mathlib.Core.Bool.{and-false}
+use borrow.Author.Tests.{lt-leb, eqb-false}
 use Rattle.channel.specs.Below.{any_below}
 use Rattle.channel.proofs.Below.{any_below-none}
 use Rattle.bits.specs.Bits.{bit_of}
@@ -202,12 +195,12 @@ module _ (loads : List ℕ) (i : ℕ) (old : List ℕ) where
 
   -- one number more, where the old row is that of one top pin less
   pub row_more :
-      (q j before diagonal : ℕ) (new : List ℕ) → (0 < i → (k : ℕ) → k ≤ q → get_or old k 0 ≡ lower_bound loads (i - 1) k) → j ≤ q
+      (j before diagonal : ℕ) (new : List ℕ) → (0 < i → (k : ℕ) → k < length old → get_or old k 0 ≡ lower_bound loads (i - 1) k)
       → j < length old → Row loads i j old new before diagonal
       → Row loads i (j + 1) old (set new j (lowest loads i j (get_or new j 0) before diagonal))
       (lowest loads i j (get_or new j 0) before diagonal)
       (get_or new j 0)
-  row_more q j before diagonal new less h room r =
+  row_more j before diagonal new less room r =
       record {
         kept = simp length-set r.kept;
         passed = λ k l. by-test k l (eqb k j) refl;
@@ -221,7 +214,7 @@ module _ (loads : List ℕ) (i : ℕ) (old : List ℕ) where
 
       found : here ≡ lower_bound loads i j
       found =
-          bound_step loads i j (get_or new j 0) before diagonal (λ p. r.ahead j (omega arith) ∙ less p j h) r.left
+          bound_step loads i j (get_or new j 0) before diagonal (λ p. r.ahead j (omega arith) ∙ less p j room) r.left
           (λ p l. r.corner l ∙ less p (j - 1) (omega arith))
 
       by-test : (k : ℕ) → k < j + 1 → (t : Bool) → eqb k j ≡ t → get_or (set new j here) k 0 ≡ lower_bound loads i k

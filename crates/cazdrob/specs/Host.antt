@@ -1,24 +1,24 @@
 -- What the C functions return and leave behind, in document 01's numbers.
 -- Assumes nothing.
-use Rattle.std.specs.Prelude.{ℕ, ◌≡◌, List, length, ℤ}
+use Rattle.std.specs.Prelude.{ℕ, ◌≡◌, List, length, ℤ, Result}
 use Rattle.refusals.specs.Refusals as refusals
-use Rattle.refusals.specs.declared.Checked.{Checked}
-use Rattle.refusals.specs.declared.Checked.TheVariants.{Sound, Refused}
+use Rattle.refusals.specs.Answers.{number_in}
 use Rattle.measured.specs.Numbers as measured
 use Rattle.measure.specs.Answer.{measured_of}
 use Rattle.searched.specs.Numbers as searched
 use Rattle.search.specs.Answer.{searched_of, columns_after, work_after}
 use Rattle.left_edge.specs.declared.Span.{Span}
-use Rattle.tracked.specs.declared.Tracked.{Tracked}
+use Rattle.tracked.specs.declared.Counts.{Counts}
+use Rattle.tracked.specs.declared.TrackRefusal.{TrackRefusal}
 use Rattle.tracked.specs.Numbers as tracked
 use Rattle.tracks.specs.Answer.{tracked_of, spans_after}
 use Rattle.made.specs.Numbers as made
+use Rattle.refusals.specs.declared.Refusal.{Refusal}
 use Rattle.module_sheet.specs.Answer.{made_of, sheet_after, ReadsBack}
 
 -- the number of a sheet's refusal; 0 for a sound sheet
-abbrev pub check_number : Checked → ℕ
-check_number Sound = 0
-check_number (Refused why) = refusals.number_of why
+abbrev pub check_number : Result Unit Refusal → ℕ
+check_number answer = number_in refusals.number_of answer
 
 -- the promise of a measurement: its number, and the density and the amount that it leaves
 pub record HostMeasures (bytes columns : List ℕ) (density' : ℕ) (amount' : ℤ) (r : ℕ) : Type 0 where
@@ -34,7 +34,7 @@ pub record HostSearches (bytes buffer work buffer' work' : List ℕ) (density' r
   pub cells : work' ≡ work_after bytes (length buffer) work
 
 -- what is left of an answer about tracks in the caller's numbers
-pub record HostNumbers (answer : Tracked) (nets' tracks' : ℕ) (amount' : ℤ) (r : ℕ) : Type 0 where
+pub record HostNumbers (answer : Result Counts TrackRefusal) (nets' tracks' : ℕ) (amount' : ℤ) (r : ℕ) : Type 0 where
   pub number : r ≡ tracked.number_of answer
   pub nets : nets' ≡ tracked.count_of answer
   pub tracks : tracks' ≡ tracked.tracks_of answer

@@ -6,27 +6,18 @@ ghost use Rattle.std.specs.Prelude.{◌≡◌};
 ghost use Rattle.channel.specs.Distance.{amount};
 ghost use Rattle.soundness.specs.Check.{check_of};
 ghost use Rattle.sheet.specs.Parts.{shape_of};
+ghost use Rattle.tracked.specs.Routed.{counts_in};
 ghost use Rattle.cazdrob.specs.Host.{check_number, HostMeasures, HostSearches, HostNumbers, HostTracks, HostMakes};
 
 use left_edge::Span;
-use refusals::Checked;
-use tracked::Routed;
+use refusals::{amount_of, number_of};
+use tracked::{Counts, Routed, TrackRefusal};
 
 // The number of the sheet's refusal; 0 for a sound sheet.
 pub fn cazdrob_check(s: &[u8]) -> u32
     ensures { result ≡ check_number (check_of s.now) }
 {
-    let checked = soundness::check(s);
-    match checked {
-        Checked::Sound => 0,
-        Checked::Refused(why) => wide(refusals::number_of(why)),
-    }
-}
-
-fn wide(x: u8) -> u32
-    ensures { result ≡ x }
-{
-    x as u32
+    u32::from(number_of(soundness::check(s)))
 }
 
 // The work cells that a search of the sheet needs; 0 for a refused sheet.
@@ -42,13 +33,7 @@ pub fn cazdrob_cells(s: &[u8]) -> usize
 pub fn cazdrob_distance(before: u8, column: u8, least: u8, greatest: u8) -> i32
     ensures { result ≡ amount least greatest before column }
 {
-    wide_amount(terminal::amount(before, column, least, greatest))
-}
-
-fn wide_amount(x: i16) -> i32
-    ensures { result ≡ x }
-{
-    x as i32
+    i32::from(terminal::amount(before, column, least, greatest))
 }
 
 // Measures a column list: 0 with its density, or the number of a refusal with density 0. With 14 comes the amount by which the first bad
@@ -56,10 +41,10 @@ fn wide_amount(x: i16) -> i32
 pub fn cazdrob_measure(s: &[u8], columns: &[u8], density: &mut u32, amount: &mut i32) -> u32
     ensures { HostMeasures s.now columns.now density.new amount.new result }
 {
-    let answer = measure::measure(s, columns);
-    *density = measured::density_of(answer);
-    *amount = wide_amount(measured::amount_of(answer));
-    wide(measured::number_of(answer))
+    let measured = measure::measure(s, columns);
+    *density = measured.unwrap_or(0);
+    *amount = i32::from(amount_of(measured));
+    u32::from(number_of(measured))
 }
 
 // Finds the best assignment: 0 with its density and its columns, or the number of a refusal with density 0.
@@ -67,9 +52,9 @@ pub fn cazdrob_search(s: &[u8], columns: &mut [u8], work: &mut [u16], density: &
     ensures { HostSearches s.now columns.old work.old
         columns.new work.new density.new result }
 {
-    let answer = search::search(s, columns, work);
-    *density = wide(searched::density_of(answer));
-    wide(searched::number_of(answer))
+    let found = search::search(s, columns, work);
+    *density = u32::from(found.unwrap_or(0));
+    u32::from(number_of(found))
 }
 
 // Gives the nets of a clean assignment their tracks: 0 with the numbers of nets and tracks and a span for each net in front of the array,
@@ -91,20 +76,22 @@ pub fn cazdrob_tracks(
 }
 
 // Stores the numbers of an answer about tracks.
-fn put_answer(routed: Routed, nets: &mut usize, tracks: &mut u32, amount: &mut i32) -> u32
-    ensures { HostNumbers routed.answer nets.new tracks.new amount.new result }
+fn put_answer(
+    routed: Result<Routed, TrackRefusal>,
+    nets: &mut usize,
+    tracks: &mut u32,
+    amount: &mut i32,
+) -> u32
+    ensures { HostNumbers (counts_in routed) nets.new tracks.new amount.new result }
 {
-    let answer = routed.answer;
-    *nets = tracked::count_of(answer);
-    *tracks = wide_tracks(tracked::tracks_of(answer));
-    *amount = wide_amount(tracked::amount_of(answer));
-    wide(tracked::number_of(answer))
-}
-
-fn wide_tracks(x: u16) -> u32
-    ensures { result ≡ x }
-{
-    x as u32
+    let counts = match routed {
+        Ok(r) => r.counts,
+        Err(_) => Counts { nets: 0, tracks: 0 },
+    };
+    *nets = counts.nets;
+    *tracks = u32::from(counts.tracks);
+    *amount = i32::from(amount_of(routed));
+    u32::from(number_of(routed))
 }
 
 // Turns two sides of modules into the sheet of a channel of so many columns: 0 with the sheet and its length, or the number of a refusal
@@ -118,7 +105,7 @@ pub fn cazdrob_modules(
 ) -> u32
     ensures { HostMakes length top.now bottom.now s.old s.new written.new result }
 {
-    let answer = module_sheet::make(length, top, bottom, s);
-    *written = made::length_of(answer);
-    wide(made::number_of(answer))
+    let sheet = module_sheet::make(length, top, bottom, s);
+    *written = sheet.unwrap_or(0);
+    u32::from(number_of(sheet))
 }

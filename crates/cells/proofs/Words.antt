@@ -1,12 +1,6 @@
 -- Words in cells: what is put in is read back, and other words and cells stay.
 -- Assumes nothing.
-use Prim.Native.Nat.{ℕ, ◌+◌, ◌*◌, ◌/◌, ◌%◌, ◌^◌, ◌≤◌, ◌<◌}
-use mathlib.Core.Path.{◌≡◌, ◌∙◌}
-use mathlib.Core.List.{List}
-use mathlib.Core.Logic.{◌⊎◌, inl, inr, ◌≢◌}
-use native.Mathlib.Omega.{arith}
-use lib.ListN.{length, get_or, set, drop, length-set}
-use lib.Seq.{get_or-set_same, get_or-set_other, drop-set-lt}
+use Rattle.std.proofs.Common.{ℕ, ◌+◌, ◌*◌, ◌/◌, ◌%◌, ◌^◌, ◌≤◌, ◌<◌, ◌≡◌, ◌∙◌, List, ◌⊎◌, inl, inr, ◌≢◌, arith, length, get_or, set, drop, length-set, get_or-set_same, get_or-set_other, drop-set-lt}
 use Rattle.cells.specs.Cells.{word_at, put_word}
 
 pub length-put : (cells : List ℕ) (at w : ℕ) → length (put_word cells at w) ≡ length cells

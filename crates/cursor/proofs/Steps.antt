@@ -13,7 +13,8 @@ use Rattle.format.specs.declared.Side.TheVariants.{Top, Bottom}
 use Rattle.soundness.specs.Read.{Read}
 use Rattle.soundness.specs.Read.Read.{sound, refused}
 use Rattle.cursor.specs.declared.Cursor.{Cursor}
-use Rattle.cursor.specs.declared.Step.TheVariants.{Finished}
+use Rattle.std.proofs.Common.{Option, None, Some}
+use Rattle.std.proofs.lemmas.Option.{none-some}
 use Rattle.cursor.specs.declared.Visit.{Visit}
 use Rattle.sheet.specs.Parts.{shape_as, nth, entry_of, entry_as}
 use Rattle.cursor.specs.Visits.{visits, all_visits, visit_of, step_in, step_as}
@@ -55,6 +56,23 @@ unfolding all_visits
 step-below s passed h =
     rw (append-nil (visits Bottom 1 s.bottom)) (step_past Top (visits Bottom 1 s.bottom) (next passed) 1 s.top passed h)
 
+-- what is found comes with the cursor past it
+past_of : Option (Visit × Cursor) → ℕ
+past_of (Some (v, past)) = past.passed
+past_of None = 0
+
+step_next :
+    (vs : List Visit) (k : ℕ) (at past : Cursor) (v : Visit) → step_in vs k at ≡ Some (v, past) → past.passed ≡ at.passed
+unfolding past_of
+step_next [] k at past v h = absurd (none-some _ h)
+step_next (u ∷ vs) zero at past v h = sym (ap past_of h)
+step_next (u ∷ vs) (suc k) at past v h = step_next vs k at past v h
+
+pub step_passes : (passed : ℕ) (r : Read) (v : Visit) (past : Cursor) → step_as passed r ≡ Some (v, past) → past.passed ≡ passed + 1
+unfolding next
+step_passes passed (sound s) v past h = step_next (all_visits s) passed (next passed) past v h
+step_passes passed (refused n) v past h = absurd (none-some _ h)
+
 -- a step of a sheet as read
 module _ (passed : ℕ) where
   pub step-top :
@@ -73,7 +91,7 @@ module _ (passed : ℕ) where
       sym (step-below s passed h ∙ step-place Bottom [] (next passed) s.bottom (passed - length s.top) (omega arith))
   step-bottom (refused n) h g = absurd (omega arith)
 
-  pub step_end : (r : Read) → (shape_as r).pins ≤ passed → Finished ≡ step_as passed r
+  pub step_end : (r : Read) → (shape_as r).pins ≤ passed → None ≡ step_as passed r
   unfolding next
   step_end (sound s) h =
       sym (step-below s passed (omega arith) ∙ step_past Bottom [] (next passed) 1 s.bottom (passed - length s.top) (omega arith))

@@ -1,7 +1,7 @@
 -- The steps through a sheet's terminals (document 01, "The sheet": "steps through its terminals, top then bottom, each once
 -- with its side, place and record, and then says it has finished; over a refused sheet it says so at once").
 -- Assumes nothing.
-use Rattle.std.specs.Prelude.{ℕ, zero, suc, ◌+◌, List, [], ◌∷◌, ◌++◌}
+use Rattle.std.specs.Prelude.{ℕ, zero, suc, ◌+◌, List, [], ◌∷◌, ◌++◌, Option, Some, None}
 use Rattle.channel.specs.Sheet.{Terminal, Sheet}
 use Rattle.terminal.specs.Terminal.{record_of}
 use Rattle.format.specs.declared.Side.{Side}
@@ -9,10 +9,7 @@ use Rattle.format.specs.declared.Side.TheVariants.{Top, Bottom}
 use Rattle.soundness.specs.Read.{Read, read}
 use Rattle.soundness.specs.Read.Read.{sound, refused}
 use Rattle.cursor.specs.declared.Cursor.{Cursor}
-use Rattle.sheet.specs.declared.Entry.{Entry}
-use Rattle.sheet.specs.declared.Entry.TheVariants.{Terminal as Found, Nothing}
-use Rattle.cursor.specs.declared.Step.{Step}
-use Rattle.cursor.specs.declared.Step.TheVariants.{Terminal as At, Finished}
+use Rattle.terminal.specs.declared.Record.{Record}
 use Rattle.cursor.specs.declared.Visit.{Visit}
 
 -- one side's terminals with their places, the first of which is k
@@ -25,22 +22,22 @@ unfoldable pub all_visits : Sheet → List Visit
 all_visits s = visits Top 1 s.top ++ visits Bottom 1 s.bottom
 
 -- the answer of a step whose record is known, with the cursor past it
-abbrev pub visit_of : Side → ℕ → Cursor → Entry → Step
-visit_of side place next (Found r) = At (record { side = side; place = place; terminal = r }) next
-visit_of side place next Nothing = Finished
+abbrev pub visit_of : Side → ℕ → Cursor → Option Record → Option (Visit × Cursor)
+visit_of side place next (Some r) = Some (record { side = side; place = place; terminal = r }, next)
+visit_of side place next None = None
 
--- the k-th of them, from 0, with the cursor past it; then the end
-abbrev pub step_in : List Visit → ℕ → Cursor → Step
-step_in [] k next = Finished
-step_in (v ∷ vs) zero next = At v next
+-- the k-th of them, from 0, with the cursor past it; then the end, `None`
+abbrev pub step_in : List Visit → ℕ → Cursor → Option (Visit × Cursor)
+step_in [] k next = None
+step_in (v ∷ vs) zero next = Some (v, next)
 step_in (v ∷ vs) (suc k) next = step_in vs k next
 
 abbrev pub start : Cursor
 start = record { passed = 0 }
 
-abbrev pub step_as : ℕ → Read → Step
+abbrev pub step_as : ℕ → Read → Option (Visit × Cursor)
 step_as passed (sound s) = step_in (all_visits s) passed (record { passed = passed + 1 })
-step_as passed (refused n) = Finished
+step_as passed (refused n) = None
 
-unfoldable pub step_of : List ℕ → Cursor → Step
+unfoldable pub step_of : List ℕ → Cursor → Option (Visit × Cursor)
 step_of b c = step_as c.passed (read b)

@@ -6,7 +6,7 @@ ghost use Rattle.sheet.specs.Parts.{entry_at};
 ghost use Rattle.cursor.specs.Visits.{start, step_of, visit_of};
 
 use format::Side;
-use sheet::{Entry, record_at, shape_of};
+use sheet::{record_at, shape_of};
 use terminal::Record;
 
 // How many terminals of a sheet have been passed, top then bottom.
@@ -23,13 +23,6 @@ pub struct Visit {
     pub terminal: Record,
 }
 
-// What a step finds: a terminal and the cursor past it, or the end.
-#[derive(Clone, Copy)]
-pub enum Step {
-    Terminal(Visit, Cursor),
-    Finished,
-}
-
 impl Cursor {
     // The cursor before the first terminal.
     pub fn new() -> Self
@@ -38,14 +31,14 @@ impl Cursor {
         Cursor { passed: 0 }
     }
 
-    // The next terminal and the cursor past it, or the end. A refused sheet is at its end at once.
-    pub fn step(self, s: &[u8]) -> Step
+    // The next terminal and the cursor past it, or nothing at the end. A refused sheet is at its end at once.
+    pub fn step(self, s: &[u8]) -> Option<(Visit, Cursor)>
         ensures { result ≡ step_of s.now self }
     {
         let passed = self.passed;
         let shape = shape_of(s);
         if shape.pins <= passed {
-            return Step::Finished;
+            return None;
         }
         let next = Cursor { passed: passed + 1 };
         let top = shape.top;
@@ -58,19 +51,14 @@ impl Cursor {
 }
 
 // The terminal at a side and place, with the cursor past it.
-fn found_at(s: &[u8], side: Side, place: usize, next: Cursor) -> Step
+fn found_at(s: &[u8], side: Side, place: usize, next: Cursor) -> Option<(Visit, Cursor)>
     ensures { result ≡ visit_of side place next (entry_at s.now side place) }
 {
-    let entry = record_at(s, side, place);
-    match entry {
-        Entry::Terminal(terminal) => Step::Terminal(
-            Visit {
-                side,
-                place,
-                terminal,
-            },
-            next,
-        ),
-        Entry::Nothing => Step::Finished,
-    }
+    let terminal = record_at(s, side, place)?;
+    let visit = Visit {
+        side,
+        place,
+        terminal,
+    };
+    Some((visit, next))
 }

@@ -1,26 +1,20 @@
 -- The loads that a loop over the nets' places counts are the loads of the cut.
 -- Assumes nothing.
-use Prim.Native.Nat.{ℕ, zero, suc, ◌+◌, ◌/◌, ◌≤◌, ◌<◌}
-use mathlib.Core.Path.{◌≡◌, refl, sym, ap, ap₂, ◌∙◌, fun_ext}
-use mathlib.Core.List.{List, [], ◌∷◌, ◌++◌}
-use mathlib.Core.Bool.{Bool, true, false, cond, ◌||◌, or-false, false≢true}
-use native.Mathlib.Omega.{arith}
-use native.Mathlib.Nat.{le_refl, mul-div_right}
-use lib.ListN.{length, get_or, take}
-use lib.Dec.{leb, ltb, eqb}
-use lib.Seq.{take-suc, take-length}
+use Rattle.std.proofs.Common.{ℕ, ◌+◌, ◌≤◌, ◌<◌, ◌≡◌, refl, ap, ◌∙◌, List, [], ◌∷◌, ◌++◌, Bool, true, false, cond, ◌||◌, arith, add-one, length, get_or, drop, drop_of_length-le, leb, ltb, eqb, drop-cons}
+use mathlib.Core.Path.{fun_ext}
+use mathlib.Core.Bool.{or-false, false≢true}
+use mir.Val.{bool_byte}
 use Rattle.channel.specs.Density.{weight_of, distinct, crossing}
 use Rattle.channel.specs.Word.{Letter, has_top, has_bottom}
 use Rattle.channel.specs.Word.Letter.{top as T, bottom as B, both as TB}
 use Rattle.channel.specs.Cut.{left_of, here_of, right_of, crosses_cut}
 use Rattle.channel.proofs.Columns.{any_append}
 use Rattle.cut.specs.declared.Cut.{Cut}
-use Rattle.cut.specs.declared.Loads.{Loads}
+use Rattle.arrays.specs.declared.Loads.{Loads}
 use Rattle.places.specs.declared.NetPlaces.{NetPlaces}
 use Rattle.cut.specs.Counts.{load_of}
-use Rattle.places.specs.Places.{places_of, places_list, places_at, Listed}
-use Rattle.places.proofs.Listing.{places_at_lem, length_places}
-use Rattle.cut.specs.Counts.{cut_of, crosses_as, with_net, loads_to, loads_at}
+use Rattle.places.specs.Places.{places_of, places_list, Listed}
+use Rattle.cut.specs.Counts.{cut_of, crosses_as, with_net, loads_from, loads_at}
 use Rattle.cut.proofs.Stands.{side_left, side_here}
 use Rattle.places.proofs.Sides.{last_right}
 
@@ -52,76 +46,68 @@ crosses_as_lem a tops bottoms i j p q h k t b n =
     )
     (simp (any_append, either_side))
 
--- one net more at the end of a list
-weight_snoc : (f : ℕ → Bool) (ns : List ℕ) (n : ℕ) → weight_of f (ns ++ (n ∷ [])) ≡ weight_of f ns + cond (f n) 1 0
-weight_snoc f [] n = omega arith
-weight_snoc f (m ∷ ns) n = omega (arith, weight_snoc f ns n)
-
--- a test counts for at most one
-one_more : (b : Bool) → cond b 1 0 ≤ 1
-one_more true = le_refl 1
-one_more false = omega arith
-
 -- one of the three loads: that of letter a
 module _ (pick : Loads → ℕ) (a : Letter) (c : Cut)
     (none : pick (record { top = 0; bottom = 0; both = 0 }) ≡ 0)
     (more : (l : Loads) (s : NetPlaces) → pick (with_net c l s) ≡ pick l + cond (crosses_as a c s) 1 0) where
-  -- it is at most the number of nets counted
-  picked_small : (places : List ℕ) (m : ℕ) → pick (loads_to places c m) ≤ m
-  picked_small places zero = omega (arith, none)
-  picked_small places (suc m) =
-      omega (arith, more (loads_to places c m) (places_at places m), picked_small places m, one_more (crosses_as a c (places_at places m)))
-
-  -- over the first m nets of a list it counts those that cross
-  picked : (tops bottoms ns : List ℕ) (m : ℕ) → m ≤ length ns
-      → pick (loads_to (places_list tops bottoms ns) c m) ≡ weight_of (λ (n : ℕ). crosses_as a c (places_of tops bottoms n)) (take m ns)
-  picked tops bottoms ns zero h = none
-  picked tops bottoms ns (suc m) h =
-      let places : List ℕ = places_list tops bottoms ns in
-      let f : ℕ → Bool = λ n. crosses_as a c (places_of tops bottoms n) in
-      more (loads_to places c m) (places_at places m)
-      ∙ ap₂ (λ (k : ℕ) (s : NetPlaces). k + cond (crosses_as a c s) 1 0) (picked tops bottoms ns m (omega arith))
-      (places_at_lem tops bottoms ns m h)
-      ∙ sym (ap (weight_of f) (take-suc ns m 0 h) ∙ weight_snoc f (take m ns) (get_or ns m 0))
+  -- over more nets it counts those that cross
+  picked : (tops bottoms ns : List ℕ) (l : Loads)
+      → pick (loads_from c l (places_list tops bottoms ns)) ≡ pick l + weight_of (λ (n : ℕ). crosses_as a c (places_of tops bottoms n)) ns
+  picked tops bottoms [] l = omega arith
+  picked tops bottoms (n ∷ ns) l =
+      let s : NetPlaces = places_of tops bottoms n in
+      omega (arith, picked tops bottoms ns (with_net c l s), more l s)
 
   picked_all : (tops bottoms ns : List ℕ)
       → pick (loads_at (places_list tops bottoms ns) c) ≡ weight_of (λ (n : ℕ). crosses_as a c (places_of tops bottoms n)) ns
   unfolding loads_at
-  picked_all tops bottoms ns =
-      let places : List ℕ = places_list tops bottoms ns in
-      let n : length places / 5 ≡ length ns =
-      ap (λ (k : ℕ). k / 5) (length_places tops bottoms ns) ∙ mul-div_right (length ns) (omega arith) in
-      ap (λ (k : ℕ). pick (loads_to places c k)) n
-      ∙ picked tops bottoms ns (length ns) (le_refl (length ns))
-      ∙ ap (weight_of (λ (n : ℕ). crosses_as a c (places_of tops bottoms n))) (take-length ns)
+  picked_all tops bottoms ns = omega (arith, picked tops bottoms ns (record { top = 0; bottom = 0; both = 0 }), none)
 
--- so the three are small while few nets are counted
-pub loads_small : (places : List ℕ) (c : Cut) (m : ℕ) (l : Loads) → l ≡ loads_to places c m → m < 255
-    → (l.top < 255) × (l.bottom < 255) × (l.both < 255)
+-- the three are small while few nets are counted
+pub record Small (l : Loads) (m : ℕ) : Type 0 where
+  pub top : l.top ≤ m
+  pub bottom : l.bottom ≤ m
+  pub both : l.both ≤ m
+
+-- a test counts for at most one
+one_more : (b : Bool) → cond b 1 0 ≤ 1
+one_more true = omega arith
+one_more false = omega arith
+
+pub small-more : (c : Cut) (l : Loads) (s : NetPlaces) (m : ℕ) → Small l m → Small (with_net c l s) (m + 1)
 unfolding with_net
-loads_small places c m l e h =
-    rw e (
-      omega (arith, picked_small (λ (l : Loads). l.top) T c refl (λ l s. refl) places m),
-      omega (arith, picked_small (λ (l : Loads). l.bottom) B c refl (λ l s. refl) places m),
-      omega (arith, picked_small (λ (l : Loads). l.both) TB c refl (λ l s. refl) places m),
-    )
+small-more c l s m h =
+    record {
+      top = omega (arith, h.top, one_more (crosses_as T c s));
+      bottom = omega (arith, h.bottom, one_more (crosses_as B c s));
+      both = omega (arith, h.both, one_more (crosses_as TB c s));
+    }
+
+-- the next net of a list, and the end
+pub loads-next : (c : Cut) (l : Loads) (places : List NetPlaces) (m : ℕ) (s : NetPlaces) → m < length places
+    → loads_from c l (drop m places) ≡ loads_from c (with_net c l (get_or places m s)) (drop (m + 1) places)
+loads-next c l places m s h = rw (add-one, drop-cons places m s h)
+
+pub loads-end : (c : Cut) (l : Loads) (places : List NetPlaces) (m : ℕ) → length places ≤ m → loads_from c l (drop m places) ≡ l
+loads-end c l places m h = ap (loads_from c l) (drop_of_length-le places h)
+
+byte_test : (b : Bool) → bool_byte b ≡ cond b 1 0
+byte_test true = refl
+byte_test false = refl
 
 -- the loads with a net more, from the three tests of it as the code makes them: a top column has no bottom pin to test
-pub net_more : (c : Cut) (l : Loads) (s : NetPlaces) (x y z : Bool) (p q r : ℕ)
+pub net_more : (c : Cut) (l : Loads) (s : NetPlaces) (x y z : Bool)
     → x
     ≡ crossing (ltb s.top.first c.top.count || leb s.bottom.first c.bottom.count) (eqb c.top.net s.net)
     (ltb c.top.count s.top.last || ltb c.bottom.count s.bottom.last)
     → y ≡ crosses_as B c s
     → z ≡ crosses_as TB c s
-    → p ≡ l.top + cond x 1 0
-    → q ≡ l.bottom + cond y 1 0
-    → r ≡ l.both + cond z 1 0
-    → ◌≡◌ {A = Loads} (record { top = p; bottom = q; both = r }) (with_net c l s)
+    → ◌≡◌ {A = Loads} (record { top = l.top + bool_byte x; bottom = l.bottom + bool_byte y; both = l.both + bool_byte z }) (with_net c l s)
 unfolding with_net
-net_more c l s x y z p q r ex ey ez ep eq er = rw (ep, eq, er, ex, ey, ez, or-false)
+net_more c l s x y z ex ey ez = rw (byte_test x, byte_test y, byte_test z, ex, ey, ez, or-false)
 
 -- what the loop counts for letter a at the cut (i, j), where the column of such a cut has a pin for each pin of the letter
-module _ (tops bottoms places : List ℕ) (listed : Listed tops bottoms places) (i j : ℕ) (h : i ≤ length tops) (k : j ≤ length bottoms) where
+module _ (tops bottoms : List ℕ) (places : List NetPlaces) (listed : Listed tops bottoms places) (i j : ℕ) (h : i ≤ length tops) (k : j ≤ length bottoms) where
   load_at_lem : (pick : Loads → ℕ) (a : Letter)
       → pick (record { top = 0; bottom = 0; both = 0 }) ≡ 0
       → ((l : Loads) (s : NetPlaces) → pick (with_net (cut_of tops bottoms i j) l s)
@@ -133,7 +119,7 @@ module _ (tops bottoms places : List ℕ) (listed : Listed tops bottoms places) 
   load_at_lem pick a none more t b =
       let c : Cut = cut_of tops bottoms i j in
       let ns : List ℕ = distinct (tops ++ bottoms) in
-      ap (λ (xs : List ℕ). pick (loads_at xs c)) listed.places
+      ap (λ (xs : List NetPlaces). pick (loads_at xs c)) listed.places
       ∙ picked_all pick a c none more tops bottoms ns
       ∙ ap (λ (f : ℕ → Bool). weight_of f ns) (fun_ext (crosses_as_lem a tops bottoms i j listed.top listed.bottom h k t b))
 

@@ -1,12 +1,7 @@
 -- The ends of a net on one side, and the net of the last pin so far, say which stretches of the side it stands in at a column.
 -- Assumes nothing.
-use Prim.Native.Nat.{ℕ, zero, suc, ◌-◌, ◌≤◌}
-use mathlib.Core.Path.{◌≡◌, refl, ◌∙◌}
-use mathlib.Core.List.{List}
-use mathlib.Core.Bool.{Bool, true, false, ◌||◌, or-false}
-use native.Mathlib.Omega.{arith}
-use lib.ListN.{length, get_or}
-use lib.Seq.{drop-cons}
+use Rattle.std.proofs.Common.{ℕ, zero, suc, ◌-◌, ◌≤◌, ◌≡◌, refl, ◌∙◌, List, Bool, true, false, ◌||◌, arith, length, get_or, drop-cons}
+use mathlib.Core.Bool.{or-false}
 use lib.Dec.{leb-suc-suc}
 use Rattle.kind.specs.Kinds.{kind_of, leaves_left}
 use Rattle.channel.specs.Cut.{has, left_of, here_of}

@@ -1,15 +1,14 @@
 -- The loads of one cut, as a loop over the nets' places counts them.
 -- Assumes nothing.
-use Rattle.std.specs.Prelude.{ℕ, zero, suc, ◌+◌, ◌/◌, List, ◌∷◌, ◌++◌, Bool, cond, ◌&&◌, ◌||◌, length, get_or, leb, ltb, eqb}
+use Rattle.std.specs.Prelude.{ℕ, ◌+◌, List, [], ◌∷◌, ◌++◌, Bool, cond, ◌&&◌, ◌||◌, get_or, leb, ltb, eqb}
 use Rattle.channel.specs.Density.{crossing, weight, weight_of, distinct}
 use Rattle.channel.specs.Cut.{left_of, here_of, right_of, crosses_cut}
 use Rattle.channel.specs.Word.{Letter, has_top, has_bottom}
 use Rattle.channel.specs.Word.Letter.{top as T, bottom as B, both as TB}
 use Rattle.cut.specs.declared.Cut.{Cut}
-use Rattle.cut.specs.declared.Loads.{Loads}
+use Rattle.arrays.specs.declared.Loads.{Loads}
 use Rattle.places.specs.declared.NetPlaces.{NetPlaces}
 use Rattle.cut.specs.declared.Stand.{Stand}
-use Rattle.places.specs.Places.{places_at}
 
 -- the net at a place, from 1, of one side; 0 at place 0
 abbrev pub net_at : List ℕ → ℕ → ℕ
@@ -46,13 +45,13 @@ with_net c l s =
       both = l.both + cond (crosses_as TB c s) (weight s.net) 0;
     }
 
--- the loads over the first m nets, and over all
-abbrev pub loads_to : List ℕ → Cut → ℕ → Loads
-loads_to places c zero = record { top = 0; bottom = 0; both = 0 }
-loads_to places c (suc m) = with_net c (loads_to places c m) (places_at places m)
+-- the loads so far, and then over more nets; and over all
+abbrev pub loads_from : Cut → Loads → List NetPlaces → Loads
+loads_from c l [] = l
+loads_from c l (s ∷ places) = loads_from c (with_net c l s) places
 
-unfoldable pub loads_at : List ℕ → Cut → Loads
-loads_at places c = loads_to places c (length places / 5)
+unfoldable pub loads_at : List NetPlaces → Cut → Loads
+loads_at places c = loads_from c (record { top = 0; bottom = 0; both = 0 }) places
 
 -- the loads of the columns that can be at the cut (i, j), and 0 for the others: one with a top pin has i ≥ 1, one with a bottom pin j ≥ 1
 abbrev pub possible_loads : Loads → ℕ → ℕ → Loads

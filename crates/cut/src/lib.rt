@@ -1,11 +1,12 @@
 // The three loads of one cut, counted in one loop over the nets.
 #![tactic(auto)]
 
-ghost use Rattle.std.specs.Prelude.{◌≡◌, cond, ◌+◌, ◌≤◌, ◌<◌, length};
+ghost use Rattle.std.specs.Prelude.{◌≡◌, ◌≤◌, ◌<◌, length};
 ghost use Rattle.channel.specs.Density.{crossing};
 ghost use Rattle.cut.specs.Counts.{stand_of, with_net, loads_at};
 
-use places::{NetPlaces, places_at};
+use arrays::Loads;
+use places::NetPlaces;
 
 // Of one side: how many pins stand at or left of the column, and the net of the last of them.
 #[derive(Clone, Copy)]
@@ -21,27 +22,14 @@ pub struct Cut {
     pub bottom: Stand,
 }
 
-// The loads of a column with a top pin only, a bottom pin only, and both.
-#[derive(Clone, Copy)]
-pub struct Loads {
-    pub top: u8,
-    pub bottom: u8,
-    pub both: u8,
-}
-
 // One side at a column with i of its pins at or left of it.
 pub fn stand_at(ns: &[u16], i: usize) -> Stand
     requires { (i ≤ length ns.now) × (length ns.now ≤ 64) }
     ensures { result ≡ stand_of ns.now i }
 {
     let count = i as u16;
-    if i == 0 {
-        return Stand { count, net: 0 };
-    }
-    Stand {
-        count,
-        net: ns[i - 1],
-    }
+    let net = if i == 0 { 0 } else { ns[i - 1] };
+    Stand { count, net }
 }
 
 // Whether a net that reaches left of the column, stands in it and reaches right of it, or not, crosses it.
@@ -49,14 +37,6 @@ fn crosses(left: bool, here: bool, right: bool) -> bool
     ensures { result ≡ crossing left here right }
 {
     (left | here) & ((here | right) & (left | right))
-}
-
-// One more, if a test holds.
-fn add_if(n: u8, more: bool) -> u8
-    requires { n < 255 }
-    ensures { result ≡ n + cond more 1 0 }
-{
-    if more { n + 1 } else { n }
 }
 
 // The loads with one net more.
@@ -82,15 +62,15 @@ fn with_net(c: Cut, l: Loads, s: NetPlaces) -> Loads
         right,
     );
     Loads {
-        top: add_if(l.top, top),
-        bottom: add_if(l.bottom, bottom),
-        both: add_if(l.both, both),
+        top: l.top + u8::from(top),
+        bottom: l.bottom + u8::from(bottom),
+        both: l.both + u8::from(both),
     }
 }
 
 // The loads of one cut.
-pub fn loads_at(places: &[u16], c: Cut) -> Loads
-    requires { length places.now ≤ 640 }
+pub fn loads_at(places: &[NetPlaces], c: Cut) -> Loads
+    requires { length places.now ≤ 255 }
     ensures { result ≡ loads_at places.now c }
 {
     let mut l = Loads {
@@ -98,12 +78,8 @@ pub fn loads_at(places: &[u16], c: Cut) -> Loads
         bottom: 0,
         both: 0,
     };
-    let mut m = 0;
-    let n = places.len() / 5;
-    while m < n {
-        let s = places_at(places, m);
-        l = with_net(c, l, s);
-        m += 1;
+    for s in places {
+        l = with_net(c, l, *s);
     }
     l
 }

@@ -1,8 +1,6 @@
 -- The density of a column list is the greatest of the counts of its columns.
 -- Assumes nothing.
-use Prim.Native.Nat.{ℕ, ◌<◌}
-use mathlib.Core.Path.{◌≡◌, ◌∙◌, ap}
-use mathlib.Core.List.{List, ◌++◌}
+use Rattle.std.proofs.Common.{◌≡◌, ℕ, ◌<◌, List, ◌++◌, ap, ◌∙◌}
 use Rattle.channel.specs.Sheet.{Terminal, sheet_with}
 use Rattle.channel.specs.Density.{Pin, maximum_to, density}
 use Rattle.channel.specs.Cut.{nets}

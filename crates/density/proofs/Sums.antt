@@ -1,17 +1,10 @@
 -- Laws of the counting: one addition for each net gives the crossings of every column.
 -- Assumes nothing.
-use Prim.Native.Nat.{ℕ, suc, ◌+◌, ◌≤◌, ◌<◌, max}
-use mathlib.Core.Path.{◌≡◌, refl, sym, ◌∙◌, ap}
-use mathlib.Core.List.{List, [], ◌∷◌}
-use mathlib.Core.Bool.{Bool, true, false, cond, ◌&&◌}
-use native.Mathlib.Omega.{arith}
-use native.Mathlib.Numerals.{add-one}
-use native.Mathlib.Nat.{zero-add, add-zero}
-use native.Mathlib.Decide.{ℕ_discrete}
-use lib.ListN.{length, get_or, drop, set, replicate, drop_of_length-le}
-use lib.Seq.{get_or-set_same, get_or-set_other}
-use lib.Dec.{leb, ltb, eqb}
-use borrow.Author.Tests.{leb-true, leb-false, le-leb, ltb-true, ltb-false, lt-ltb, le-ltb}
+use Rattle.std.proofs.Common.{zero, ◌-◌, ◌++◌, one-add, length-take-le, get_or-take, add-sub_of_le, ◌≡◌, ℕ, suc, ◌+◌, ◌<◌, ◌≤◌, max, Bool, true, false, cond, ◌&&◌, eqb, ltb, leb, List, [], ◌∷◌, length, get_or, take, drop, fold, replicate, length-drop, get_or-drop, take-suc, sym, refl, ap, ◌∙◌, add-zero, zero-add, arith, drop_of_length-le, ltb-false, ltb-true, le-ltb, lt-ltb, le-leb, leb-false, leb-true}
+use borrow.Rule.Slice.PartMut.{put_mid}
+use Rattle.std.proofs.lemmas.List.Sums.{fold-append}
+use Rattle.std.proofs.lemmas.List.{get_or_append_left, get_or-append_right}
+use borrow.Author.Tests.{lt-leb}
 use Rattle.channel.specs.Density.{any, Pin, maximum_to}
 use Rattle.channel.proofs.Spans.{spans-from}
 use Rattle.channel.specs.Spans.{sum_last, leftmost, rightmost}
@@ -37,53 +30,48 @@ sum_most f (n ∷ ns) = go (any (eqb n) ns) (f n) (sum_most f ns)
     go false true h = omega arith
     go false false h = omega arith
 
--- the greatest of the columns: one column more
-maximum_more : (k : ℕ) (f : ℕ → ℕ) → maximum_to (k + 1) f ≡ max (f (k + 1)) (maximum_to k f)
-maximum_more k f = rw add-one
-
--- a larger count takes the place of the most so far, and any other does not
-module _ (k : ℕ) (f : ℕ → ℕ) (most : ℕ) (so_far : most ≡ maximum_to k f) where
-  pub maximum_new : most < f (k + 1) → f (k + 1) ≡ maximum_to (k + 1) f
-  maximum_new h = rw maximum_more (omega arith)
-
-  pub maximum_kept : f (k + 1) ≤ most → most ≡ maximum_to (k + 1) f
-  maximum_kept h = rw maximum_more (omega arith)
+-- the greatest of the columns 1 to l
+pub greatest_fold :
+    (l : ℕ) (xs : List ℕ) → l < length xs
+    → fold (λ (most x : ℕ). max most x) 0 (take l (drop 1 xs)) ≡ maximum_to l (λ (c : ℕ). get_or xs c 0)
+greatest_fold zero xs h = refl
+greatest_fold (suc l) xs h =
+    rw (take-suc (drop 1 xs) l 0 (rw length-drop (omega arith)), fold-append, greatest_fold l xs (omega arith), get_or-drop, one-add) (omega arith)
 
 -- the columns from a on, before b
 abbrev pub up_to : ℕ → ℕ → ℕ → Bool
 up_to a b c = leb a c && ltb c b
 
--- column b comes next
-next_same : (a b : ℕ) → a ≤ b → (up_to a b b ≡ false) × (up_to a (b + 1) b ≡ true)
-next_same a b h = rw (le-leb a b h) (le-ltb b b (omega arith), lt-ltb b (b + 1) (omega arith))
-
--- and no other
-next_other : (a b c : ℕ) → (c ≡ b → ⊥) → up_to a (b + 1) c ≡ up_to a b c
-next_other a b c h = ap (λ (t : Bool). leb a c && t) (go (ltb c b) refl)
+-- a part of the counts from a on, before a + n, to each of which 1 was added
+pub added_part :
+    (a n : ℕ) (before part : List ℕ) → a + n ≤ length before → length part ≡ n
+    → ((k : ℕ) → get_or part k 0 ≡ get_or (take n (drop a before)) k 0 + cond (ltb k n) 1 0)
+    → Added 1 (up_to a (a + n)) before (put_mid a n before part)
+added_part a n before part inside long added c = go (ltb c a) refl (ltb c (a + n)) refl
   where
-    go : (t : Bool) → ltb c b ≡ t → ltb c (b + 1) ≡ t
-    go true e = lt-ltb c (b + 1) (omega (arith, ltb-true c b e))
-    go false e = le-ltb c (b + 1) (omega (arith, ltb-false c b e))
+    front : length (take a before) ≡ a
+    front = length-take-le a before (omega arith)
 
--- counts to which 1 was added in the columns from a on, before b
-module _ (a b : ℕ) (before now : List ℕ) (added : Added 1 (up_to a b) before now) (reached : a ≤ b) where
-  pub added_next : get_or now b 0 ≡ get_or before b 0
-  added_next = added b ∙ rw ((next_same a b reached).0, add-zero)
+    later : a ≤ c → get_or (put_mid a n before part) c 0 ≡ get_or (part ++ drop n (drop a before)) (c - a) 0
+    later h = get_or-append_right (take a before) (part ++ drop n (drop a before)) a c 0 front h
 
-  pub added_more : b < length now → Added 1 (up_to a (b + 1)) before (set now b (get_or now b 0 + 1))
-  added_more h c = go (ℕ_discrete c b)
-    where
-      go : Dec (c ≡ b) → get_or (set now b (get_or now b 0 + 1)) c 0 ≡ get_or before c 0 + cond (up_to a (b + 1) c) 1 0
-      go (yes e) = rw (e, get_or-set_same now b (get_or now b 0 + 1) 0 h, (next_same a b reached).1, added_next)
-      go (no e) = rw (get_or-set_other now b c (get_or now b 0 + 1) 0 e, next_other a b c e) (added c)
-
--- none of them at first, and at last those from a to b
-pub added_none : (a : ℕ) (counts : List ℕ) → Added 1 (up_to a a) counts counts
-added_none a counts c = rw (none (leb a c) refl, add-zero)
-  where
-    none : (t : Bool) → leb a c ≡ t → (t && ltb c a) ≡ false
-    none true e = le-ltb c a (leb-true a c e)
-    none false e = refl
+    go : (s : Bool) → ltb c a ≡ s → (t : Bool) → ltb c (a + n) ≡ t
+        → get_or (put_mid a n before part) c 0 ≡ get_or before c 0 + cond (leb a c && t) 1 0
+    go true e t f =
+        let h : c < a = ltb-true c a e in
+        rw (lt-leb a c h, get_or_append_left (take a before) (part ++ drop n (drop a before)) 0 c (omega (arith, front)), get_or-take, add-zero)
+    go false e true f =
+        let h : a ≤ c = ltb-false c a e in
+        let g : c - a < n = omega (arith, ltb-true c (a + n) f) in
+        later h
+        ∙ rw (get_or_append_left part (drop n (drop a before)) 0 (c - a) (omega (arith, long)), added (c - a))
+        (rw (le-leb a c h, lt-ltb (c - a) n g, get_or-take, get_or-drop, add-sub_of_le))
+    go false e false f =
+        let h : a ≤ c = ltb-false c a e in
+        let g : a + n ≤ c = ltb-false c (a + n) f in
+        later h
+        ∙ rw (get_or-append_right part (drop n (drop a before)) n (c - a) 0 long (omega arith), get_or-drop, get_or-drop)
+        (rw (le-leb a c h, add-zero) (ap (λ (k : ℕ). get_or before k 0) (omega arith)))
 
 pub added_all : (a b : ℕ) (before now : List ℕ) → Added 1 (up_to a (b + 1)) before now → Added 1 (within a b) before now
 added_all a b before now added c = added c ∙ ap (λ (t : Bool). get_or before c 0 + cond (leb a c && t) 1 0) (last (leb c b) refl)

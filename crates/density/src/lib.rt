@@ -20,13 +20,7 @@ pub fn list_density(top: &[u8], bottom: &[u8], columns: &[u8], p: usize, l: usiz
     all_nets(top, bottom, p, &mut nets[..n]);
     let mut counts: [u16; 256] = [0; 256];
     count_nets(&nets[..n], columns, &mut counts);
-    wide(greatest(&counts, l))
-}
-
-fn wide(x: u16) -> u32
-    ensures { result ≡ x }
-{
-    x as u32
+    u32::from(greatest(&counts, l))
 }
 
 // Counts each net once, where it occurs last.
@@ -34,12 +28,10 @@ fn count_nets(nets: &[u16], columns: &[u8], counts: &mut [u16])
     requires { (length nets.now ≡ length columns.now) × (length nets.now ≤ 128) × (counts.old ≡ replicate 256 0) }
     ensures { (c : ℕ) → get_or counts.new c 0 ≡ counted_at nets.now columns.now c }
 {
-    let mut i = 0;
-    while i < nets.len() {
-        if !occurs(nets[i], nets, i + 1) {
-            count_net(nets[i], nets, columns, counts);
+    for (i, net) in nets.iter().enumerate() {
+        if !occurs(*net, nets, i + 1) {
+            count_net(*net, nets, columns, counts);
         }
-        i += 1;
     }
 }
 
@@ -60,10 +52,8 @@ fn add_span(counts: &mut [u16], from: usize, to: usize)
     requires { (from ≤ to) × (to < length counts.old) × Small counts.old }
     ensures { Added 1 (within from to) counts.old counts.new }
 {
-    let mut c = from;
-    while c <= to {
-        counts[c] += 1;
-        c += 1;
+    for count in &mut counts[from..=to] {
+        *count += 1;
     }
 }
 
@@ -72,13 +62,5 @@ fn greatest(counts: &[u16], l: usize) -> u16
     requires { l < length counts.now }
     ensures { result ≡ maximum_to l (λ (c : ℕ). get_or counts.now c 0) }
 {
-    let mut most: u16 = 0;
-    let mut c = 0;
-    while c < l {
-        c += 1;
-        if most < counts[c] {
-            most = counts[c];
-        }
-    }
-    most
+    counts[1..=l].iter().fold(0, |most, count| most.max(*count))
 }

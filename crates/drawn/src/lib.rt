@@ -5,4 +5,4 @@ mod draws;
 mod sheets;
 
 pub use draws::{bits, draw};
-pub use sheets::{Plan, plan_of, sheet_of, single, write_sheet};
+pub use sheets::{plan_of, put_sheet, sheet_of, single};

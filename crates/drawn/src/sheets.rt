@@ -4,23 +4,31 @@ ghost use Rattle.std.specs.Prelude.{◌≤◌};
 
 use crate::draws::{bits, draw};
 use enumeration::{ROOM, Sheet};
-use fixtures::{Page, close, full_set, put_record};
+use fixtures::{Page, Plan, full_set};
 use terminal::Record;
 
-// L, p, q, and whether the bottom section comes first.
-#[derive(Clone, Copy)]
-pub struct Plan {
-    columns: u8,
-    top: u8,
-    bottom: u8,
-    bottom_first: bool,
+// How the range of a terminal's distances is drawn.
+#[derive(Clone, Copy, Debug, PartialEq, Eq)]
+enum RangeKind {
+    // 1 to 255
+    Loose,
+    // one distance
+    One,
+    Both,
+    // the least one, and 255
+    Least,
 }
 
-// A least and a greatest distance.
-#[derive(Clone, Copy)]
-struct Range {
-    least: u8,
-    greatest: u8,
+// How a terminal's set is drawn.
+#[derive(Clone, Copy, Debug, PartialEq, Eq)]
+enum SetKind {
+    Full,
+    // about half the columns
+    Half,
+    // four columns at the most
+    Few,
+    // one, and sometimes none
+    One,
 }
 
 // L 1 to 4, p and q 0 to 3, and six nets out of three: 4 * 4 * 4 * 729.
@@ -55,14 +63,11 @@ fn drawn_pins(n: u64, what: u64) -> u8 {
 
 // Three in four are narrow, the others have up to 64 columns; 6 and 64 are the most frequent.
 fn drawn_columns(n: u64) -> u8 {
-    if draw(n, 4, 0, 0, 3) != 0 {
-        return smaller(draw(n, 5, 0, 1, 8), 6);
+    if draw(n, 4, 0, 0, 3) == 0 {
+        draw(n, 5, 0, 7, 80).min(64)
+    } else {
+        draw(n, 5, 0, 1, 8).min(6)
     }
-    smaller(draw(n, 5, 0, 7, 80), 64)
-}
-
-fn smaller(a: u8, b: u8) -> u8 {
-    if a < b { a } else { b }
 }
 
 // The sheet of a plan: its terminals, top before bottom.
@@ -73,28 +78,26 @@ pub fn sheet_of(n: u64, plan: Plan) -> Sheet {
         greatest: 0,
         allowed: 0,
     };
-    let mut terminals = [none; ROOM];
+    let mut records = [none; ROOM];
     let mut digits = n / 64;
-    let mut t = 0;
-    while t < ROOM {
-        terminals[t] = terminal_of(n, plan, t, digits);
-        digits = digits / 3;
-        t += 1;
+    for (t, record) in records.iter_mut().enumerate() {
+        *record = terminal_of(n, plan, t, digits);
+        digits /= 3;
     }
     Sheet {
         columns: plan.columns,
         top: plan.top,
         bottom: plan.bottom,
-        terminals,
+        records,
     }
 }
 
 fn terminal_of(n: u64, plan: Plan, t: usize, digits: u64) -> Record {
-    let range = range_of(n, plan, t);
+    let (least, greatest) = range_of(n, plan, t);
     Record {
         net: net_of(n, t, digits),
-        least: range.least,
-        greatest: range.greatest,
+        least,
+        greatest,
         allowed: set_of(n, plan, t),
     }
 }
@@ -130,82 +133,74 @@ fn net_of_kind(kind: u8, k: u16) -> u16
     }
 }
 
-// 0: range 1 to 255, 1: one distance, 2: least and greatest, 3: least and 255.
-fn range_kind(n: u64, t: usize) -> u8 {
+// Mostly one kind for the whole sheet.
+fn range_kind(n: u64, t: usize) -> RangeKind {
     if n < REGULAR {
-        return 0;
+        return RangeKind::Loose;
     }
     match draw(n, 10, 0, 0, 7) {
-        5 => 1,
-        6 => 2,
-        7 => draw(n, 11, t, 0, 3),
-        _ => 0,
+        5 => RangeKind::One,
+        6 => RangeKind::Both,
+        7 => match draw(n, 11, t, 0, 3) {
+            0 => RangeKind::Loose,
+            1 => RangeKind::One,
+            2 => RangeKind::Both,
+            _ => RangeKind::Least,
+        },
+        _ => RangeKind::Loose,
     }
 }
 
-fn range_of(n: u64, plan: Plan, t: usize) -> Range {
+// The least and the greatest distance.
+fn range_of(n: u64, plan: Plan, t: usize) -> (u8, u8) {
     if t == 0 || t == plan.top as usize {
-        return Range {
-            least: 0,
-            greatest: 0,
-        };
-    }
-    let kind = range_kind(n, t);
-    if kind == 0 {
-        return Range {
-            least: 1,
-            greatest: 255,
-        };
+        return (0, 0);
     }
     let narrow = plan.columns <= 6;
     let least = draw(n, 12, t, 1, if narrow { 3 } else { 30 });
-    let greatest = match kind {
-        1 => least,
-        2 => draw(n, 13, t, least, if narrow { 4 } else { 40 }),
-        _ => 255,
-    };
-    Range { least, greatest }
+    match range_kind(n, t) {
+        RangeKind::Loose => (1, 255),
+        RangeKind::One => (least, least),
+        RangeKind::Both => {
+            let greatest = draw(n, 13, t, least, if narrow { 4 } else { 40 });
+            (least, greatest)
+        }
+        RangeKind::Least => (least, 255),
+    }
 }
 
-// 0: full, 1: about half the columns, 2: at most four, 3: one, and sometimes none.
-// With many pins the sets are small, so that the lists can be tried one by one.
-fn set_kind(n: u64, plan: Plan, t: usize) -> u8 {
+// Mostly one kind for the whole sheet. With many pins the sets are small, so that the lists can be tried one by one.
+fn set_kind(n: u64, plan: Plan, t: usize) -> SetKind {
     if n < REGULAR {
-        return 0;
+        return SetKind::Full;
     }
-    let common = draw(n, 14, 0, 0, 4);
-    let kind = if common == 4 {
-        draw(n, 15, t, 0, 3)
-    } else {
-        common
-    };
     let most = if plan.columns <= 6 { 6 } else { 2 };
-    if most < plan.top as u16 + plan.bottom as u16 && kind < 2 {
-        2
-    } else {
-        kind
+    let crowded = most < plan.top as u16 + plan.bottom as u16;
+    let drawn = match draw(n, 14, 0, 0, 4) {
+        4 => draw(n, 15, t, 0, 3),
+        common => common,
+    };
+    match drawn {
+        0 if !crowded => SetKind::Full,
+        1 if !crowded => SetKind::Half,
+        3 => SetKind::One,
+        _ => SetKind::Few,
     }
 }
 
 fn set_of(n: u64, plan: Plan, t: usize) -> u64 {
     match set_kind(n, plan, t) {
-        0 => full_set(plan.columns),
-        1 => full_set(plan.columns) & bits(n, 16, t),
-        2 => few(n, plan, t),
-        _ => if draw(n, 17, t, 0, 19) == 0 {
-            0
-        } else {
+        SetKind::Full => full_set(plan.columns),
+        SetKind::Half => full_set(plan.columns) & bits(n, 16, t),
+        SetKind::Few => {
             drawn_column(n, plan, t, 18)
-        },
+                | drawn_column(n, plan, t, 20)
+                | drawn_column(n, plan, t, 22)
+                | drawn_column(n, plan, t, 24)
+        }
+        SetKind::One if draw(n, 17, t, 0, 19) == 0 => 0,
+        SetKind::One => drawn_column(n, plan, t, 18),
     }
-}
-
-fn few(n: u64, plan: Plan, t: usize) -> u64 {
-    let a = drawn_column(n, plan, t, 18);
-    let b = drawn_column(n, plan, t, 20);
-    let c = drawn_column(n, plan, t, 22);
-    let d = drawn_column(n, plan, t, 24);
-    a | b | c | d
 }
 
 // The set of one column, often the first or the last.
@@ -221,34 +216,26 @@ fn drawn_column(n: u64, plan: Plan, t: usize, what: u64) -> u64
 
 // The set of this column alone, and the empty set where it is none of 1 to 64.
 pub fn single(column: u8) -> u64 {
-    if column == 0 {
-        return 0;
+    match column {
+        1..=64 => 1 << (column - 1),
+        _ => 0,
     }
-    if 64 < column {
-        return 0;
-    }
-    1u64 << (column - 1)
 }
 
-// Writes the sheet's bytes; gives their number.
-pub fn write_sheet(plan: Plan, sheet: Sheet, page: &mut Page) -> usize {
-    let end = enumeration::pins(sheet);
-    let mut t = 0;
-    while t < end {
-        let terminal = sheet.terminals[t];
-        put_record(page, record_place(plan, t), terminal);
-        t += 1;
+// Writes the sheet into the page.
+pub fn put_sheet(page: &mut Page, plan: Plan, sheet: &Sheet) {
+    for (t, terminal) in sheet.terminals().iter().enumerate() {
+        page.put_record(record_place(plan, t), *terminal);
     }
-    close(page, plan.columns, plan.top, plan.bottom, plan.bottom_first)
+    page.close(plan);
 }
 
 // Which record of the file terminal t has.
 fn record_place(plan: Plan, t: usize) -> usize {
     let p = plan.top as usize;
     if !plan.bottom_first {
-        return t;
-    }
-    if t < p {
+        t
+    } else if t < p {
         t + plan.bottom as usize
     } else {
         t - p

@@ -1,12 +1,7 @@
 -- Numbers, records and trailers behind other bytes, and each read back from the bytes it was written to.
 -- Assumes nothing.
-use Prim.Native.Nat.{ℕ, zero, suc, ◌+◌, ◌*◌, ◌/◌, ◌%◌, ◌^◌, ◌<◌}
-use mathlib.Core.Path.{◌≡◌, refl, sym, ◌∙◌, ap, ap₂}
-use mathlib.Core.List.{List, [], ◌∷◌, ◌++◌, append-nil}
-use native.Mathlib.Omega.{arith}
-use native.Mathlib.Nat.{add_assoc, mod-add-div, mul-div_right, div-lt_iff_lt-mul, pow-suc}
-use lib.ListN.{length}
-use lib.Seq.{get_or-append-add}
+use Rattle.std.proofs.Common.{◌≡◌, ℕ, zero, suc, ◌+◌, ◌*◌, ◌/◌, ◌%◌, ◌^◌, ◌<◌, List, [], ◌∷◌, ◌++◌, length, sym, refl, ap, ◌∙◌, ap₂, append-nil, add_assoc, div-lt_iff_lt-mul, pow-suc, arith, get_or-append-add}
+use native.Mathlib.Nat.{mod-add-div, mul-div_right}
 use Rattle.channel.specs.Sheet.{Terminal}
 use Rattle.little.specs.Little.{little}
 use Rattle.trailer.specs.declared.Trailer.{Trailer}

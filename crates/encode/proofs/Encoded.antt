@@ -1,15 +1,7 @@
 -- A sound sheet whose numbers fit their bytes is read back from its bytes.
 -- Assumes nothing.
-use Prim.Native.Nat.{ℕ, ◌+◌, ◌-◌, ◌*◌}
-use mathlib.Core.Path.{◌≡◌, refl, ◌∙◌, ap}
-use mathlib.Core.List.{List, [], ◌∷◌, append_assoc}
-use mathlib.Core.Bool.{Bool, true, false}
-use native.Mathlib.Omega.{arith}
-use lib.ListN.{length, get_or, take, drop}
-use lib.Seq.{get_or-append-add, take_at, drop_at}
-use borrow.Author.Tests.{le-leb, le-ltb, eq-eqb, ne_eqb}
+use Rattle.std.proofs.Common.{◌≡◌, ℕ, ◌+◌, ◌-◌, ◌*◌, Bool, true, false, List, [], ◌∷◌, length, get_or, take, drop, refl, ap, ◌∙◌, append_assoc, arith, take_at, get_or-append-add, drop_at, le-ltb, eq-eqb, ne_eqb, le-leb, Ok}
 use Rattle.channel.specs.Sheet.{Terminal, Sheet, SoundFrom, Sound}
-use Rattle.refusals.specs.declared.Checked.TheVariants as checked
 use Rattle.trailer.specs.declared.Trailer.{Trailer}
 use Rattle.trailer.specs.Trailer.{trailer_size, trailer_at, trailer_of, has_mark, CP}
 use Rattle.format.specs.Format.{record_size}
@@ -23,7 +15,7 @@ use Rattle.encode.proofs.Lengths.{length-section, length_sections, length-sheet}
 use Rattle.encode.proofs.Bytes.{trailer_behind, trailer_read, section-read}
 
 -- a sound side passes its check
-side_checks : (l : ℕ) (is_first : Bool) (ts : List Terminal) → SoundFrom l is_first ts → side_check l is_first ts ≡ checked.Sound
+side_checks : (l : ℕ) (is_first : Bool) (ts : List Terminal) → SoundFrom l is_first ts → side_check l is_first ts ≡ Ok tt
 unfolding terminal_check
 side_checks l is_first [] h = refl
 side_checks l is_first (t ∷ ts) h = rw (h.0.net, h.0.distances, h.0.allowed) (side_checks l false ts h.1)
@@ -60,7 +52,7 @@ module _ (s : Sheet) (whole : Sound s) (fit : Encodable s) where
           let same : length b - k ≡ length (sections_bytes s) + j = omega (arith, size, length_sections s) in
           ap (λ (i : ℕ). get_or b i 0) same ∙ get_or-append-add (sections_bytes s) (trailer_bytes last CP) j 0
 
-  laid : trailer_check last (length b) ≡ checked.Sound
+  laid : trailer_check last (length b) ≡ Ok tt
   unfolding trailer_check laid_out
   laid =
       let (few, few') = whole.counts in
@@ -74,7 +66,7 @@ module _ (s : Sheet) (whole : Sound s) (fit : Encodable s) where
         eq-eqb (record_size * length s.top) (record_size * length s.top) refl,
       )
 
-  form : form_of b ≡ checked.Sound
+  form : form_of b ≡ Ok tt
   unfolding form_of
   form = rw (le-ltb (length b) trailer_size (omega (arith, size)), marked, trailer) laid
 
@@ -97,7 +89,7 @@ module _ (s : Sheet) (whole : Sound s) (fit : Encodable s) where
       ∙ ap terminals_in (take_at (section_bytes s.bottom) _ _ (length-section s.bottom))
       ∙ section-read s.bottom fit.bottom
 
-  check : check_of b ≡ checked.Sound
+  check : check_of b ≡ Ok tt
   unfolding check_of
   check =
       rw (

@@ -1,11 +1,6 @@
 -- What a loop that writes has left to write.
 -- Assumes nothing.
-use Prim.Native.Nat.{ℕ, ◌+◌}
-use mathlib.Core.Path.{◌≡◌, refl, sym, ◌∙◌}
-use mathlib.Core.List.{List, [], ◌++◌}
-use native.Mathlib.Omega.{arith}
-use native.Mathlib.Nat.{add-zero}
-use lib.ListN.{length, length-append}
+use Rattle.std.proofs.Common.{◌≡◌, ℕ, ◌+◌, List, [], ◌++◌, length, sym, refl, ◌∙◌, add-zero, arith, length-append}
 use lib.Seq.{sets}
 use Rattle.text.specs.Writing.{Wrote}
 use Rattle.text.proofs.Writes.{after, kept}

@@ -1,10 +1,6 @@
 -- How long a sheet's numbers, records, sections and trailer are as bytes, and records behind others.
 -- Assumes nothing.
-use Prim.Native.Nat.{ℕ, zero, suc, ◌+◌, ◌*◌, ◌/◌}
-use mathlib.Core.Path.{◌≡◌, refl, sym, ◌∙◌, ap}
-use mathlib.Core.List.{List, [], ◌∷◌, ◌++◌, append_assoc}
-use native.Mathlib.Omega.{arith}
-use lib.ListN.{length, length-append}
+use Rattle.std.proofs.Common.{◌≡◌, ℕ, zero, suc, ◌+◌, ◌*◌, ◌/◌, List, [], ◌∷◌, ◌++◌, length, sym, refl, ap, ◌∙◌, append_assoc, arith, length-append}
 use Rattle.channel.specs.Sheet.{Terminal, Sheet}
 use Rattle.format.specs.Format.{record_size}
 use Rattle.encode.specs.Encode.{bytes, record_bytes, section_bytes, sections_bytes, trailer_bytes, top_first, sheet_bytes, sheet_size}

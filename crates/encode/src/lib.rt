@@ -1,59 +1,55 @@
-// A sheet's numbers, records and trailer written into a buffer from a place on; each function gives the place behind.
+// A sheet's numbers, records and trailer, written into a buffer.
 #![tactic(auto)]
 
 ghost use Rattle.std.specs.Prelude.{◌+◌, ◌≤◌, length};
-ghost use Rattle.text.specs.Writing.{Wrote};
+ghost use Rattle.text.specs.Writing.{Writes};
 ghost use Rattle.terminal.specs.Terminal.{terminal_of};
 ghost use Rattle.format.specs.Format.{record_size};
 ghost use Rattle.encode.specs.Encode.{bytes, record_bytes, part_bytes, trailer_bytes};
 
 use terminal::Record;
-use text::{put_byte, put_text};
+use text::Writer;
 use trailer::{Part, Trailer};
 
 // A number in n bytes, the lowest first.
-pub fn put_number(out: &mut [u8], at: usize, n: usize, value: u64) -> usize
-    requires { at + n ≤ length out.old }
-    ensures { Wrote out.old at (bytes n value) out.new result }
+pub fn put_number(out: &mut Writer, n: usize, value: u64)
+    requires { out.old.end + n ≤ length out.old.out.now }
+    ensures { Writes out.old out.new (bytes n value) }
 {
-    let mut end = at;
     let mut rest = value;
-    let mut left = n;
-    while 0 < left {
-        end = put_byte(out, end, (rest % 256) as u8);
-        rest = rest / 256;
-        left -= 1;
+    for i in 0..n {
+        out.put_byte((rest % 256) as u8);
+        rest /= 256;
     }
-    end
 }
 
 // A terminal's record.
-pub fn put_record(out: &mut [u8], at: usize, r: Record) -> usize
-    requires { at + record_size ≤ length out.old }
-    ensures { Wrote out.old at (record_bytes (terminal_of r)) out.new result }
+pub fn put_record(out: &mut Writer, r: Record)
+    requires { out.old.end + record_size ≤ length out.old.out.now }
+    ensures { Writes out.old out.new (record_bytes (terminal_of r)) }
 {
-    let least = put_number(out, at, 2, r.net as u64);
-    let greatest = put_byte(out, least, r.least);
-    let allowed = put_byte(out, greatest, r.greatest);
-    put_number(out, allowed, 8, r.allowed)
+    put_number(out, 2, r.net as u64);
+    out.put_byte(r.least);
+    out.put_byte(r.greatest);
+    put_number(out, 8, r.allowed);
 }
 
 // Where a section stands.
-fn put_part(out: &mut [u8], at: usize, part: Part) -> usize
-    requires { at + 4 ≤ length out.old }
-    ensures { Wrote out.old at (part_bytes part) out.new result }
+fn put_part(out: &mut Writer, part: Part)
+    requires { out.old.end + 4 ≤ length out.old.out.now }
+    ensures { Writes out.old out.new (part_bytes part) }
 {
-    let count = put_number(out, at, 2, part.at as u64);
-    put_number(out, count, 2, part.count as u64)
+    put_number(out, 2, part.at as u64);
+    put_number(out, 2, part.count as u64);
 }
 
 // The trailer, with the mark at its end.
-pub fn put_trailer(out: &mut [u8], at: usize, t: Trailer, mark: &[u8]) -> usize
-    requires { at + 10 + length mark.now ≤ length out.old }
-    ensures { Wrote out.old at (trailer_bytes t mark.now) out.new result }
+pub fn put_trailer(out: &mut Writer, t: Trailer, mark: &[u8])
+    requires { out.old.end + 10 + length mark.now ≤ length out.old.out.now }
+    ensures { Writes out.old out.new (trailer_bytes t mark.now) }
 {
-    let bottom = put_part(out, at, t.top);
-    let columns = put_part(out, bottom, t.bottom);
-    let end = put_number(out, columns, 2, t.columns as u64);
-    put_text(out, end, mark)
+    put_part(out, t.top);
+    put_part(out, t.bottom);
+    put_number(out, 2, t.columns as u64);
+    out.put_text(mark);
 }

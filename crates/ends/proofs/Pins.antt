@@ -1,8 +1,6 @@
 -- The pins of terminals are those of their nets.
 -- Assumes nothing.
-use Prim.Native.Nat.{ℕ}
-use mathlib.Core.Path.{◌≡◌, refl, ap}
-use mathlib.Core.List.{List, [], ◌∷◌}
+use Rattle.std.proofs.Common.{◌≡◌, ℕ, List, [], ◌∷◌, refl, ap}
 use Rattle.channel.specs.Sheet.{Terminal}
 use Rattle.channel.specs.Density.{Pin, pins}
 use Rattle.channel.specs.Cut.{nets}

@@ -1,15 +1,8 @@
 -- What a row of the table needs of the buffers.
 -- Assumes nothing.
-use Rattle.std.specs.Prelude.{ℕ, ◌+◌, ◌*◌, ◌≤◌, ◌<◌, ◌≡◌, List, length}
-use Rattle.arrays.specs.Rules.{rule_words}
-use Rattle.arrays.specs.Loads.{load_bytes}
+use Rattle.std.specs.Prelude.{ℕ, ◌+◌, ◌*◌, ◌≤◌, ◌<◌, List, length}
 use Rattle.entry.specs.declared.Grid.{Grid}
 use Rattle.entry.specs.declared.Place.{Place}
-
--- the two sides' rules, and the loads of every cut
-pub record AsksArrays (r l : List ℕ) : Type 0 where
-  pub rules : length r ≡ rule_words
-  pub loads : length l ≡ load_bytes
 
 -- the row lies in the cells, and so do the same rows of the planes before it
 pub record AsksEntry (work : List ℕ) (g : Grid) (p : Place) : Type 0 where

@@ -2,14 +2,12 @@
 #![tactic(auto)]
 
 ghost use Rattle.std.specs.Prelude.{ℕ, ◌+◌, ◌-◌, ◌≤◌, ◌<◌, ◌≡◌, length, leb};
-ghost use Rattle.arrays.specs.Rules.{pins};
-ghost use Rattle.arrays.specs.Loads.{load_bytes, load_at};
 ghost use Rattle.bits.specs.Bits.{bit_of};
 ghost use Rattle.rows.specs.Held.{held};
 ghost use Rattle.entry.specs.Entry.{start_part, top_part, bottom_part, both_part, entry};
-ghost use Rattle.entry.specs.Asks.{AsksEntry, AsksArrays};
+ghost use Rattle.entry.specs.Asks.{AsksEntry};
 
-use arrays::{allowed, load, range};
+use arrays::{LoadTable, RuleTable};
 use bits::{below, bit, both, either, from, single};
 use cells::read_word;
 use rows::rows;
@@ -34,14 +32,6 @@ pub struct Place {
     pub at: usize,
 }
 
-// Whether the load of a column is within the bound.
-fn within(loads: &[u8], bound: u8, i: usize, j: usize, letter: usize) -> bool
-    requires { (length loads.now ≡ load_bytes) × (i ≤ pins) × (j ≤ pins) × (letter ≤ 2) }
-    ensures { result ≡ leb (load_at loads.now i j letter) bound }
-{
-    load(loads, i, j, letter) <= bound
-}
-
 // No pin is placed.
 fn start(i: usize, j: usize, x: usize) -> u64
     ensures { (y : ℕ) → y < 64 → bit_of result y ≡ start_part i j x y }
@@ -57,9 +47,16 @@ fn start(i: usize, j: usize, x: usize) -> u64
 }
 
 // The last column holds a top pin alone.
-fn top(work: &[u16], rules: &[u64], loads: &[u8], grid: Grid, bound: u8, place: Place) -> u64
-    requires { AsksArrays rules.now loads.now × AsksEntry work.now grid place }
-    ensures { (y : ℕ) → y < 64 → bit_of result y ≡ top_part rules.now loads.now bound place.i place.j
+fn top(
+    work: &[u16],
+    rules: &RuleTable,
+    loads: &LoadTable,
+    grid: Grid,
+    bound: u8,
+    place: Place,
+) -> u64
+    requires { AsksEntry work.now grid place }
+    ensures { (y : ℕ) → y < 64 → bit_of result y ≡ top_part rules.now.words loads.now.bytes bound place.i place.j
         (held work.now (place.at - grid.stride)) place.x y }
 {
     let i = place.i;
@@ -71,9 +68,9 @@ fn top(work: &[u16], rules: &[u64], loads: &[u8], grid: Grid, bound: u8, place: 
     if x + i <= j {
         return 0;
     }
-    if within(loads, bound, i, j, 0) {
-        if bit(allowed(rules, 0, i), x) {
-            let found = rows(work, place.at - grid.stride, x, range(rules, 0, i));
+    if loads.at(i, j).top <= bound {
+        if bit(rules.allowed(0, i), x) {
+            let found = rows(work, place.at - grid.stride, x, rules.range(0, i));
             return both(found, below(x + i - j));
         }
     }
@@ -81,9 +78,16 @@ fn top(work: &[u16], rules: &[u64], loads: &[u8], grid: Grid, bound: u8, place: 
 }
 
 // A bottom pin alone.
-fn bottom(work: &[u16], rules: &[u64], loads: &[u8], grid: Grid, bound: u8, place: Place) -> u64
-    requires { AsksArrays rules.now loads.now × AsksEntry work.now grid place }
-    ensures { (y : ℕ) → y < 64 → bit_of result y ≡ bottom_part rules.now loads.now bound place.i place.j
+fn bottom(
+    work: &[u16],
+    rules: &RuleTable,
+    loads: &LoadTable,
+    grid: Grid,
+    bound: u8,
+    place: Place,
+) -> u64
+    requires { AsksEntry work.now grid place }
+    ensures { (y : ℕ) → y < 64 → bit_of result y ≡ bottom_part rules.now.words loads.now.bytes bound place.i place.j
         (held work.now (place.at - grid.size)) place.x y }
 {
     let i = place.i;
@@ -92,9 +96,9 @@ fn bottom(work: &[u16], rules: &[u64], loads: &[u8], grid: Grid, bound: u8, plac
     if j == 0 {
         return 0;
     }
-    if within(loads, bound, i, j, 1) {
+    if loads.at(i, j).bottom <= bound {
         let row = read_word(work, place.at - grid.size + 4 * x);
-        let found = both(steps(row, range(rules, 1, j)), allowed(rules, 1, j));
+        let found = both(steps(row, rules.range(1, j)), rules.allowed(1, j));
         if x + i < j {
             return found;
         }
@@ -104,9 +108,16 @@ fn bottom(work: &[u16], rules: &[u64], loads: &[u8], grid: Grid, bound: u8, plac
 }
 
 // Both.
-fn pair(work: &[u16], rules: &[u64], loads: &[u8], grid: Grid, bound: u8, place: Place) -> u64
-    requires { AsksArrays rules.now loads.now × AsksEntry work.now grid place }
-    ensures { (y : ℕ) → y < 64 → bit_of result y ≡ both_part rules.now loads.now bound place.i place.j
+fn pair(
+    work: &[u16],
+    rules: &RuleTable,
+    loads: &LoadTable,
+    grid: Grid,
+    bound: u8,
+    place: Place,
+) -> u64
+    requires { AsksEntry work.now grid place }
+    ensures { (y : ℕ) → y < 64 → bit_of result y ≡ both_part rules.now.words loads.now.bytes bound place.i place.j
         (held work.now (place.at - (grid.stride + grid.size))) place.x y }
 {
     let i = place.i;
@@ -125,17 +136,17 @@ fn pair(work: &[u16], rules: &[u64], loads: &[u8], grid: Grid, bound: u8, place:
     if 64 <= y {
         return 0;
     }
-    if within(loads, bound, i, j, 2) {
-        if bit(allowed(rules, 0, i), x) {
+    if loads.at(i, j).both <= bound {
+        if bit(rules.allowed(0, i), x) {
             let found = rows(
                 work,
                 place.at - (grid.stride + grid.size),
                 x,
-                range(rules, 0, i),
+                rules.range(0, i),
             );
             return both(
                 single(y),
-                both(steps(found, range(rules, 1, j)), allowed(rules, 1, j)),
+                both(steps(found, rules.range(1, j)), rules.allowed(1, j)),
             );
         }
     }
@@ -143,9 +154,16 @@ fn pair(work: &[u16], rules: &[u64], loads: &[u8], grid: Grid, bound: u8, place:
 }
 
 // The word of a place.
-pub fn word(work: &[u16], rules: &[u64], loads: &[u8], grid: Grid, bound: u8, place: Place) -> u64
-    requires { AsksArrays rules.now loads.now × AsksEntry work.now grid place }
-    ensures { (y : ℕ) → y < 64 → bit_of result y ≡ entry rules.now loads.now bound place.i place.j
+pub fn word(
+    work: &[u16],
+    rules: &RuleTable,
+    loads: &LoadTable,
+    grid: Grid,
+    bound: u8,
+    place: Place,
+) -> u64
+    requires { AsksEntry work.now grid place }
+    ensures { (y : ℕ) → y < 64 → bit_of result y ≡ entry rules.now.words loads.now.bytes bound place.i place.j
         (held work.now (place.at - grid.stride)) (held work.now (place.at - grid.size))
         (held work.now (place.at - (grid.stride + grid.size))) place.x y }
 {

@@ -5,34 +5,11 @@ mod assignments;
 mod crossings;
 mod lists;
 mod routes;
+mod sheets;
 mod words;
 
-ghost use Rattle.std.specs.Prelude.{◌≤◌};
-
 pub use assignments::{Best, find_best, first_amount};
-pub use crossings::{density, leaves, leaving};
+pub use crossings::{Ends, density, leaves};
 pub use lists::{column, count_lists, list_of};
-pub use routes::{Routing, Span, Spans, count_nets, no_routing, no_spans, route};
-use terminal::Record;
-
-// The most terminals of a sheet, and the most columns of a list.
-pub const ROOM: usize = 9;
-
-pub type List = [u8; ROOM];
-
-// L, p, q, and the terminals, top before bottom.
-#[derive(Clone, Copy)]
-pub struct Sheet {
-    pub columns: u8,
-    pub top: u8,
-    pub bottom: u8,
-    pub terminals: [Record; ROOM],
-}
-
-// p+q, of a sheet that keeps to its room.
-pub fn pins(sheet: Sheet) -> usize
-    ensures { result ≤ 9 }
-{
-    let n = sheet.top as usize + sheet.bottom as usize;
-    if n < ROOM { n } else { ROOM }
-}
+pub use routes::{NoTracks, Routing, Span, Spans, route};
+pub use sheets::{List, Nets, ROOM, Sheet};

@@ -2,158 +2,112 @@
 ghost use Rattle.std.specs.Prelude.{◌≤◌};
 
 use crate::measures;
-use crate::measures::Tally;
-use buffers::{first_bytes, first_cells};
+use crate::tally::Tally;
+use buffers::first;
 use drawn::draw;
-use enumeration::{Best, Sheet, pins};
-use fixtures::{PAGE, Page, front};
-use searched::Searched;
+use enumeration::{Best, Sheet};
+use fixtures::Page;
+use refusals::Refusal;
+use searched::SearchRefusal;
 use std::io::{self, Write};
 
-// Whether a net of the sheet leaves the channel, whether the sheet has an assignment, and more than one of the least
-// density, the tally of its measured lists, and whether a call did not do what it must.
-#[derive(Clone, Copy)]
-pub struct Trial {
-    pub leaving: bool,
-    pub found: bool,
-    pub tied: bool,
-    pub tally: Tally,
-    pub wrong: bool,
-}
-
-// A sheet with its number, the best of its lists, and whether a call that does not do what it must is shown.
-#[derive(Clone, Copy)]
+// A sheet with its number and its bytes, the best of its lists, and whether a call that does not do what it must is shown.
+#[derive(Drop)]
 pub struct Case {
     pub n: u64,
     pub sheet: Sheet,
-    pub best: Best,
+    pub page: Page,
+    pub best: Option<Best>,
     pub shown: bool,
 }
 
-// How much of the sheet, of the column buffer and of the work buffer a call is lent.
+impl Case {
+    // The sheet without its last byte.
+    pub fn cut(&self) -> &[u8] {
+        let s = self.page.sheet();
+        &s[..s.len().saturating_sub(1)]
+    }
+
+    // Why it is refused: a trailer without its last byte is too short by itself, and has no mark behind a record.
+    pub fn cut_refusal(&self) -> Refusal {
+        if self.sheet.pins() == 0 {
+            Refusal::Short
+        } else {
+            Refusal::Mark
+        }
+    }
+}
+
+// What a call is lent: the sheet's bytes, so many bytes for columns and so many cells for work.
 #[derive(Clone, Copy)]
-struct Lent {
-    size: usize,
+struct Lent<'a> {
+    sheet: &'a [u8],
     bytes: usize,
     cells: usize,
 }
 
-// What a call must do: its refusal's number, 0 for none, its density, how many columns it writes and how many cells it
-// clears.
+// The least density, or why there is none.
+type Answer = Result<usize, SearchRefusal>;
+
+// What a call must do: its answer, the columns that it writes and how many cells it clears.
 #[derive(Clone, Copy)]
-struct Expected {
-    number: u8,
-    density: u64,
-    written: usize,
+struct Expected<'a> {
+    answer: Answer,
+    written: &'a [u8],
     cleared: usize,
 }
 
-// One less, and 0 for 0.
-pub fn less(n: usize) -> usize
-    ensures { result ≤ n }
-{
-    if n == 0 { 0 } else { n - 1 }
-}
-
 // A refusal that writes nothing.
-fn refusal(number: u8) -> Expected {
+fn nothing(why: SearchRefusal) -> Expected<'static> {
     Expected {
-        number,
-        density: 0,
-        written: 0,
+        answer: Err(why),
+        written: &[],
         cleared: 0,
     }
 }
 
-fn answer(best: Best, pins: usize, cells: usize) -> Expected {
-    Expected {
-        number: if best.found { 0 } else { 11 },
-        density: best.density as u64,
-        written: if best.found { pins } else { 0 },
-        cleared: cells,
-    }
-}
-
 // The work cells that a search needs.
-fn cells_of(sheet: Sheet) -> usize
+fn cells_of(sheet: &Sheet) -> usize
     ensures { result ≤ 4294967296 }
 {
     let plane = (sheet.columns as usize + 1) * (sheet.columns as usize + 1);
     (sheet.top as usize + 1) * (sheet.bottom as usize + 1) * plane
 }
 
-fn agrees(
-    lent: Lent,
-    expected: Expected,
-    r: Searched,
-    list: &[u8],
-    columns: &[u8],
-    work: &[u16],
-) -> bool {
-    if searched::number_of(r) != expected.number {
-        return false;
-    }
-    if searched::density_of(r) as u64 != expected.density {
-        return false;
-    }
-    if !buffers::bytes_left(columns, list, expected.written, lent.bytes) {
-        return false;
-    }
-    buffers::cells_left(work, expected.cleared, lent.cells)
-}
-
 // Both outcomes; where they are alike, a buffer is not left as it must be.
 fn show<W: Write>(
     out: &mut W,
     n: u64,
-    lent: Lent,
     expected: Expected,
-    r: Searched,
-    list: &[u8],
+    given: Answer,
     columns: &[u8],
 ) -> io::Result<()> {
-    printing::number(out, b"sheet ", n)?;
-    let wanted = expected.number;
-    printing::outcome(
-        out,
-        b", exhaustive: ",
-        wanted,
-        expected.density,
-        list,
-        expected.written,
-    )?;
-    let density = searched::density_of(r) as u64;
-    printing::outcome(
-        out,
-        b"  search: ",
-        searched::number_of(r),
-        density,
-        columns,
-        lent.bytes,
-    )
+    write!(out, "sheet {n}, exhaustive: ")?;
+    printing::found(out, expected.answer, expected.written)?;
+    write!(out, "  search: ")?;
+    printing::found(out, given, columns)
 }
 
-// One call on sheet n; `list` has the columns that it is to write.
+// One call on the sheet.
 fn call_agrees<W: Write>(
     out: &mut W,
-    n: u64,
-    shown: bool,
+    case: &Case,
     lent: Lent,
     expected: Expected,
-    page: &Page,
-    list: &[u8],
     work: &mut [u16],
 ) -> io::Result<bool> {
     // the columns of eight terminals, and four to spare
-    let mut columns = [0u8; 12];
-    buffers::mark_bytes(&mut columns, lent.bytes);
-    buffers::mark_cells(work, lent.cells);
-    let s = front(page, lent.size);
-    let bytes = first_bytes(&mut columns, lent.bytes);
-    let r = search::search(s, bytes, first_cells(work, lent.cells));
-    let good = agrees(lent, expected, r, list, &columns, work);
-    if !good && shown {
-        show(out, n, lent, expected, r, list, &columns)?;
+    let mut room = [0; 12];
+    let columns = first(&mut room, lent.bytes);
+    let cells = first(work, lent.cells);
+    buffers::mark(columns);
+    buffers::mark(cells);
+    let given = search::search(lent.sheet, columns, cells).map(usize::from);
+    let good = given == expected.answer
+        && buffers::columns_left(columns, expected.written)
+        && buffers::work_left(cells, expected.cleared);
+    if !good && case.shown {
+        show(out, case.n, expected, given, columns)?;
     }
     Ok(good)
 }
@@ -162,56 +116,61 @@ fn call_agrees<W: Write>(
 // one too short, if there are columns.
 fn refusals_agree<W: Write>(
     out: &mut W,
-    n: u64,
-    shown: bool,
+    case: &Case,
     lent: Lent,
-    page: &Page,
     work: &mut [u16],
 ) -> io::Result<bool> {
     let cut = Lent {
-        size: less(lent.size),
-        bytes: lent.bytes,
-        cells: lent.cells,
+        sheet: case.cut(),
+        ..lent
     };
     let few = Lent {
-        size: lent.size,
-        bytes: lent.bytes,
-        cells: less(lent.cells),
+        cells: lent.cells.saturating_sub(1),
+        ..lent
     };
     let fewer = Lent {
-        size: lent.size,
-        bytes: less(lent.bytes),
-        cells: less(lent.cells),
+        bytes: lent.bytes.saturating_sub(1),
+        ..few
     };
-    // a trailer without its last byte is too short by itself, and has no mark behind a record
-    let short = if lent.bytes == 0 { 1 } else { 2 };
-    let both = if lent.bytes == 0 { 10 } else { 9 };
-    let a = call_agrees(out, n, shown, cut, refusal(short), page, page, work)?;
-    let b = call_agrees(out, n, shown, few, refusal(10), page, page, work)?;
-    let c = call_agrees(out, n, shown, fewer, refusal(both), page, page, work)?;
+    let both = if lent.bytes == 0 {
+        SearchRefusal::Cells
+    } else {
+        SearchRefusal::Columns
+    };
+    let mark = SearchRefusal::Sheet(case.cut_refusal());
+    let a = call_agrees(out, case, cut, nothing(mark), work)?;
+    let b = call_agrees(out, case, few, nothing(SearchRefusal::Cells), work)?;
+    let c = call_agrees(out, case, fewer, nothing(both), work)?;
     Ok(a && b && c)
 }
 
 // The answer, in buffers of the needed length or a little longer.
 fn answers_agree<W: Write>(
     out: &mut W,
-    case: Case,
+    case: &Case,
     lent: Lent,
-    page: &Page,
     work: &mut [u16],
 ) -> io::Result<bool>
     requires { (lent.bytes ≤ 9) × (lent.cells ≤ 4294967296) }
 {
     let spare = draw(case.n, 30, 0, 0, 4) as usize;
     let longer = Lent {
-        size: lent.size,
+        sheet: lent.sheet,
         bytes: lent.bytes + spare,
         cells: lent.cells + spare,
     };
-    let best = case.best;
-    let list = enumeration::list_of(best.list, case.sheet);
-    let expected = answer(best, lent.bytes, lent.cells);
-    call_agrees(out, case.n, case.shown, longer, expected, page, &list, work)
+    let expected = match &case.best {
+        Some(best) => Expected {
+            answer: Ok(best.density),
+            written: &best.list[..lent.bytes],
+            cleared: lent.cells,
+        },
+        None => Expected {
+            cleared: lent.cells,
+            ..nothing(SearchRefusal::NoAssignment)
+        },
+    };
+    call_agrees(out, case, longer, expected, work)
 }
 
 // Every call on the sheet.
@@ -220,32 +179,36 @@ pub fn try_sheet<W: Write>(
     n: u64,
     work: &mut [u16],
     shown: bool,
-) -> io::Result<Trial> {
+) -> io::Result<Tally> {
     let plan = drawn::plan_of(n);
     let sheet = drawn::sheet_of(n, plan);
-    let mut page = [0u8; PAGE];
-    let size = drawn::write_sheet(plan, sheet, &mut page);
-    let best = enumeration::find_best(sheet);
+    let mut page = Page::new();
+    drawn::put_sheet(&mut page, plan, &sheet);
+    let best = enumeration::find_best(&sheet);
     let case = Case {
         n,
         sheet,
+        page,
         best,
         shown,
     };
     let lent = Lent {
-        size,
-        bytes: pins(sheet),
-        cells: cells_of(sheet),
+        sheet: case.page.sheet(),
+        bytes: sheet.pins(),
+        cells: cells_of(&sheet),
     };
-    let refusals = refusals_agree(out, n, shown, lent, &page, work)?;
-    let answers = answers_agree(out, case, lent, &page, work)?;
-    let measured = measures::measure_all(out, case, &page)?;
-    let tally = measured.tally;
-    Ok(Trial {
-        leaving: enumeration::leaving(sheet),
-        found: best.found,
-        tied: best.tied,
-        tally,
-        wrong: !refusals || !answers || measured.wrong,
+    let refusals = refusals_agree(out, &case, lent, work)?;
+    let answers = answers_agree(out, &case, lent, work)?;
+    let lists = measures::measure_all(out, &case)?;
+    let mut nets = sheet
+        .terminals()
+        .iter()
+        .map(|terminal| enumeration::leaves(terminal.net));
+    Ok(Tally {
+        leaving: nets.any(|ends| ends.any()) as u64,
+        found: best.is_some() as u64,
+        tied: best.is_some_and(|best| best.tied) as u64,
+        wrong: (!refusals || !answers || lists.wrong != 0) as u64,
+        ..lists
     })
 }

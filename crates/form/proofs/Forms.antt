@@ -1,5 +1,6 @@
 -- What 1 to 5 leave: the numbers of the trailer are within their limits, and both sections lie in the file.
 -- Assumes nothing.
+use Rattle.std.proofs.Common.{Ok}
 use Prim.Native.Nat.{ℕ, ◌+◌, ◌*◌, ◌≤◌, ◌<◌}
 use mathlib.Core.Path.{◌≡◌, refl}
 use mathlib.Core.List.{List}
@@ -9,7 +10,6 @@ use lib.ListN.{length}
 use lib.Dec.{eqb, ltb}
 use borrow.Author.Tests.{ltb-false, eqb-true, eqb-false, not-false}
 use Rattle.refusals.specs.declared.Refusal.TheVariants.{Short, Mark, Length, Count, Layout}
-use Rattle.refusals.specs.declared.Checked.TheVariants.{Sound}
 use Rattle.refusals.specs.Refusals.{refuse}
 use Rattle.refusals.proofs.Refused.{or_else_sound, refuse-sound}
 use Rattle.trailer.specs.declared.Part.{Part}
@@ -60,7 +60,7 @@ pub record Formed (b : List ℕ) : Type 0 where
   pub count : (side : Side) → (part_of (trailer_of b) side).count ≤ 64
   pub room : (side : Side) → (part_of (trailer_of b) side).at + record_size * (part_of (trailer_of b) side).count ≤ length b
 
-pub formed : (b : List ℕ) → form_of b ≡ Sound → Formed b
+pub formed : (b : List ℕ) → form_of b ≡ Ok tt → Formed b
 unfolding form_of trailer_check
 formed b h =
     let t = trailer_of b in

@@ -9,57 +9,45 @@ use refusals::{Checked, Refusal};
 use trailer::{Part, TRAILER, Trailer, has_mark, read_trailer};
 
 // 1 to 5 in turn: the file's length, its mark and its trailer.
+#[tactic(auto, unfolding(crate::specs::Form::form_of))]
 pub fn check_form(s: &[u8]) -> Checked
     ensures { result ≡ form_of s.now }
 {
     if s.len() < TRAILER {
-        return Checked::Refused(Refusal::Short);
+        return Err(Refusal::Short);
     }
-    if has_mark(s, b"CP") {
-        check_trailer(read_trailer(s), s.len())
-    } else {
-        Checked::Refused(Refusal::Mark)
+    if !has_mark(s, b"CP") {
+        return Err(Refusal::Mark);
     }
+    check_trailer(read_trailer(s), s.len())
 }
 
 // 3 to 5, of a file of `len` bytes.
+#[tactic(auto, unfolding(crate::specs::Form::trailer_check))]
 fn check_trailer(t: Trailer, len: usize) -> Checked
     ensures { result ≡ trailer_check t len }
 {
     let columns = t.columns;
-    if columns == 0 {
-        return Checked::Refused(Refusal::Length);
+    if columns == 0 || 64 < columns {
+        return Err(Refusal::Length);
     }
-    if 64 < columns {
-        return Checked::Refused(Refusal::Length);
+    if 64 < t.top.count || 64 < t.bottom.count {
+        return Err(Refusal::Count);
     }
-    let top = t.top;
-    let bottom = t.bottom;
-    if 64 < top.count {
-        return Checked::Refused(Refusal::Count);
+    if !laid_out(t.top, t.bottom, len) {
+        return Err(Refusal::Layout);
     }
-    if 64 < bottom.count {
-        return Checked::Refused(Refusal::Count);
-    }
-    if laid_out(top, bottom, len) {
-        Checked::Sound
-    } else {
-        Checked::Refused(Refusal::Layout)
-    }
+    Ok(())
 }
 
 // Whether the two sections fill the file before the trailer.
+#[tactic(auto, unfolding(crate::specs::Form::laid_out))]
 fn laid_out(top: Part, bottom: Part, len: usize) -> bool
     requires { (top.count ≤ 64) × (bottom.count ≤ 64) }
     ensures { result ≡ laid_out top bottom len }
 {
-    if len != RECORD * (top.count + bottom.count) + TRAILER {
-        return false;
-    }
-    if second_follows(top, bottom) {
-        return true;
-    }
-    second_follows(bottom, top)
+    len == RECORD * (top.count + bottom.count) + TRAILER
+        && (second_follows(top, bottom) || second_follows(bottom, top))
 }
 
 // Whether one section starts the file and the other stands right behind it.

@@ -1,15 +1,8 @@
 -- Laws of the terminals in a section and of the parts of a sheet's bytes: which terminals there are, and how many.
 -- Assumes nothing.
-use Prim.Native.Nat.{ℕ, zero, suc, ◌+◌, ◌-◌, ◌*◌, ◌/◌, ◌≤◌, ◌<◌, min}
-use mathlib.Core.Path.{◌≡◌, refl, sym, ◌∙◌, ap}
-use mathlib.Core.List.{List, [], ◌∷◌}
-use mathlib.Core.Bool.{Bool, true, false}
-use native.Mathlib.Omega.{arith}
-use native.Mathlib.Nat.{zero-add, mul-div_right}
-use lib.ListN.{length, get_or, take, drop, length-drop, drop_of_length-le, get_or-eq_default}
-use lib.Seq.{length-take-le, take_all}
-use lib.Dec.{ltb}
-use borrow.Author.Tests.{ltb-true, ltb-false}
+use Rattle.std.proofs.Common.{◌≡◌, ℕ, zero, suc, ◌+◌, ◌-◌, ◌*◌, ◌/◌, ◌<◌, ◌≤◌, min, Bool, true, false, ltb, List, [], ◌∷◌, length, get_or, take, drop, sym, refl, ap, ◌∙◌, zero-add, arith, length-drop, drop_of_length-le, length-take-le, take_all, ltb-false, ltb-true}
+use native.Mathlib.Nat.{mul-div_right}
+use lib.ListN.{get_or-eq_default}
 use Rattle.channel.specs.Sheet.{no_terminal}
 use Rattle.trailer.specs.declared.Part.{Part}
 use Rattle.format.specs.Format.{record_size, terminal_at, terminals_from}

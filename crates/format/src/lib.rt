@@ -20,30 +20,14 @@ pub enum Side {
 
 pub const RECORD: usize = 12;
 
-fn smaller(a: usize, b: usize) -> usize
-    ensures { result ≡ min a b }
-{
-    if a < b { a } else { b }
-}
-
-// Where so many records from `at` on end, or the file of `len` bytes does.
-fn end_of(len: usize, at: usize, count: usize) -> usize
-    requires { at ≤ len }
-    ensures { result ≡ min (at + record_size * count) len }
-{
-    if count <= (len - at) / RECORD {
-        at + RECORD * count
-    } else {
-        len
-    }
-}
-
 // The records of a part, as far as they lie in the bytes, which may be any.
 pub fn part_in(s: &[u8], part: Part) -> &[u8]
     ensures { OwnPart s.entry result (offset_of s.now part) (bytes_of s.now part) }
 {
-    let at = smaller(part.at, s.len());
-    let end = end_of(s.len(), at, part.count);
+    let at = part.at.min(s.len());
+    let end = at
+        .saturating_add(RECORD.saturating_mul(part.count))
+        .min(s.len());
     &s[at..end]
 }
 

@@ -1,7 +1,16 @@
 -- What a letter of the walk does: 0 is the empty column's, 1 that of a top pin alone, 2 that of a bottom pin alone, 3 that of both.
 -- Assumes nothing.
 use Rattle.std.specs.Prelude.{ℕ, ◌+◌, ◌-◌, List, Bool, cond, ◌&&◌, ◌||◌, set, ltb, eqb}
+use Rattle.letters.specs.declared.Letter.{Letter}
+use Rattle.letters.specs.declared.Letter.TheVariants.{Empty, Top, Bottom, Both}
 use Rattle.letters.specs.declared.Progress.{Progress}
+
+-- the number of a letter in the rules' word
+abbrev pub letter_number : Letter → ℕ
+letter_number Empty = 0
+letter_number Top = 1
+letter_number Bottom = 2
+letter_number Both = 3
 
 -- a letter has a pin of a side, whose own letter is that of its pin alone, if one of n is left; a pin that is not there is not placed
 abbrev pub has_pin : ℕ → ℕ → ℕ → Bool

@@ -1,5 +1,6 @@
 -- Laws of the lines: one terminal more of a side, and one list behind the other.
 -- Assumes nothing.
+use Rattle.std.proofs.Common.{Option}
 use Prim.Native.Nat.{ℕ, zero, suc, ◌+◌, ◌≤◌, ◌<◌}
 use mathlib.Core.Path.{◌≡◌, refl, sym, ◌∙◌, ap}
 use mathlib.Core.List.{List, [], ◌∷◌, ◌++◌, append-nil, append_assoc}
@@ -11,12 +12,12 @@ use lib.Seq.{take-nil}
 use Rattle.channel.specs.Sheet.{Terminal}
 use Rattle.terminal.specs.Terminal.{record_of}
 use Rattle.format.specs.declared.Side.{Side}
-use Rattle.sheet.specs.declared.Entry.{Entry}
 use Rattle.cursor.specs.declared.Visit.{Visit}
 use Rattle.format.specs.Parts.{terminals_in}
 use Rattle.sheet.specs.Parts.{nth, entry_of, entry_in}
 use Rattle.cursor.specs.Visits.{visits}
 use Rattle.sheet.proofs.Laws.{entry_in_lem}
+use Rattle.terminal.specs.declared.Record.{Record}
 use Rattle.lines.specs.Text.{line, entry_line, lines}
 
 -- a side's terminals from place m on, of which k have their lines, and the next
@@ -39,7 +40,7 @@ one_more side m (t ∷ ts) (c ∷ cs) (suc k) h =
 
 -- the line of the entry at place k + 1 of a section is the next one
 pub next-line :
-    (side : Side) (part cs : List ℕ) (k : ℕ) (entry : Entry) → entry ≡ entry_in part (k + 1) → k < length cs
+    (side : Side) (part cs : List ℕ) (k : ℕ) (entry : Option Record) → entry ≡ entry_in part (k + 1) → k < length cs
     → lines (take k (visits side 1 (terminals_in part))) (take k cs) ++ entry_line side (k + 1) entry (get_or cs k 0)
     ≡ lines (take (k + 1) (visits side 1 (terminals_in part))) (take (k + 1) cs)
 next-line side part cs k entry e h =

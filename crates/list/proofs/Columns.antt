@@ -1,5 +1,6 @@
 -- The check of a column list, from what the sheet layer and the two tests answer.
 -- Assumes nothing.
+use Rattle.std.proofs.Common.{Ok, Err, Result}
 use Prim.Native.Nat.{ℕ, ◌+◌, ◌-◌, ◌≤◌}
 use mathlib.Core.Path.{◌≡◌, sym, ◌∙◌, ap}
 use mathlib.Core.List.{List}
@@ -15,15 +16,13 @@ use Rattle.refusals.specs.declared.Refusal.{Refusal}
 use Rattle.refusals.specs.declared.ListRefusal.TheVariants.{Sheet as Unsound, Count, Allowed, Distance}
 use Rattle.soundness.specs.Read.{sheet_of}
 use Rattle.sheet.specs.declared.Layout.{Layout}
-use Rattle.sheet.specs.declared.Opened.TheVariants as opened
 use Rattle.sheet.specs.declared.Shape.{Shape}
 use Rattle.format.specs.Parts.{bytes_of, terminals_in}
 use Rattle.sheet.specs.Parts.{opened_of, sheet_in}
 use Rattle.sheet.proofs.Laws.{Opens, opens, same_sheet, same_shape}
-use Rattle.list.specs.declared.Listed.{Listed}
-use Rattle.list.specs.declared.Listed.TheVariants.{Assignment, Refused}
 use Rattle.list.specs.Answer.{side_allowed, all_allowed, first_of, side_amount, first_amount}
 use Rattle.list.specs.Answer.{is_zero, unless, columns_listed, sheet_listed, listed_of}
+use Rattle.refusals.specs.declared.ListRefusal.{ListRefusal}
 use Rattle.list.proofs.Amounts.{zero_false}
 
 -- the columns of a list on each side, as parts of the list
@@ -51,36 +50,36 @@ module _ (l : ℕ) (ts us : List Terminal) (cs : List ℕ) (n : Layout) (p : ℕ
   -- the answer, side by side
   sides :
       unless (side_allowed ts (top_part cs p) && side_allowed us (bottom_part cs p)) Allowed
-      (unless (is_zero (both_amount ts us cs p)) (Distance (both_amount ts us cs p)) (Assignment n))
+      (unless (is_zero (both_amount ts us cs p)) (Distance (both_amount ts us cs p)) (Ok n))
       ≡ columns_listed (sheet_with l ts us) cs n
   unfolding columns_listed all_allowed first_amount
   sides = rw (tops, bottoms)
 
   -- 13 of the top, then of the bottom, then 14
-  pub top-refused : side_allowed ts (top_part cs p) ≡ false → Refused Allowed ≡ columns_listed (sheet_with l ts us) cs n
+  pub top-refused : side_allowed ts (top_part cs p) ≡ false → Err Allowed ≡ columns_listed (sheet_with l ts us) cs n
   top-refused e = rw e at sides
 
   module _ (top : side_allowed ts (top_part cs p) ≡ true) where
-    pub bottom-refused : side_allowed us (bottom_part cs p) ≡ false → Refused Allowed ≡ columns_listed (sheet_with l ts us) cs n
+    pub bottom-refused : side_allowed us (bottom_part cs p) ≡ false → Err Allowed ≡ columns_listed (sheet_with l ts us) cs n
     bottom-refused e = rw (top, e) at sides
 
     module _ (bottom : side_allowed us (bottom_part cs p) ≡ true) (found : ℤ) (answer : found ≡ both_amount ts us cs p) where
-      by-amount : unless (is_zero found) (Distance found) (Assignment n) ≡ columns_listed (sheet_with l ts us) cs n
+      by-amount : unless (is_zero found) (Distance found) (Ok n) ≡ columns_listed (sheet_with l ts us) cs n
       by-amount = rw answer (rw (top, bottom) at sides)
 
-      pub distance-refused : (found ≡ pos 0 → ⊥) → Refused (Distance found) ≡ columns_listed (sheet_with l ts us) cs n
+      pub distance-refused : (found ≡ pos 0 → ⊥) → Err (Distance found) ≡ columns_listed (sheet_with l ts us) cs n
       distance-refused h = rw (zero_false found h) at by-amount
 
-      pub listed : found ≡ pos 0 → Assignment n ≡ columns_listed (sheet_with l ts us) cs n
+      pub listed : found ≡ pos 0 → Ok n ≡ columns_listed (sheet_with l ts us) cs n
       listed e = rw e at by-amount
 
 -- what is said of a sheet that does not open
-pub sheet-refused : (b cs : List ℕ) (why : Refusal) → opened_of b ≡ opened.Refused why → Refused (Unsound why) ≡ listed_of b cs
+pub sheet-refused : (b cs : List ℕ) (why : Refusal) → opened_of b ≡ Err why → Err (Unsound why) ≡ listed_of b cs
 unfolding listed_of
 sheet-refused b cs why e = rw e
 
 -- and of one that does, with its layout
-module _ (b cs : List ℕ) (n : Layout) (opening : opened_of b ≡ opened.Sound n) where
+module _ (b cs : List ℕ) (n : Layout) (opening : opened_of b ≡ Ok n) where
   laws : Opens b n
   laws = opens b n opening
 
@@ -92,7 +91,7 @@ module _ (b cs : List ℕ) (n : Layout) (opening : opened_of b ≡ opened.Sound 
   pins_counted = ap (λ (f : Shape). f.pins) laws.shape
 
   -- 12
-  pub count-refused : (length cs ≡ n.shape.pins → ⊥) → Refused Count ≡ listed_of b cs
+  pub count-refused : (length cs ≡ n.shape.pins → ⊥) → Err Count ≡ listed_of b cs
   unfolding sheet_listed
   count-refused h =
       sym
@@ -108,7 +107,7 @@ module _ (b cs : List ℕ) (n : Layout) (opening : opened_of b ≡ opened.Sound 
         let p = ap (λ (f : Shape). f.top) shape in
         (p, omega (arith, long, p, ap (λ (f : Shape). f.pins) shape))
 
-    pub columns-checked : (r : Listed) → r ≡ columns_listed (sheet_in n.shape.columns top bottom) cs n → r ≡ listed_of b cs
+    pub columns-checked : (r : Result Layout ListRefusal) → r ≡ columns_listed (sheet_in n.shape.columns top bottom) cs n → r ≡ listed_of b cs
     unfolding sheet_listed
     columns-checked r e =
         e

@@ -1,5 +1,6 @@
 -- What the check of a column list answered: on a sound sheet 0 exactly when the list is an assignment.
 -- Assumes nothing.
+use Rattle.std.proofs.Common.{Result, Ok, Err}
 use Prim.Native.Nat.{ℕ, ◌+◌}
 use mathlib.Core.Path.{◌≡◌, refl, sym, ◌∙◌, ap}
 use mathlib.Core.List.{List, [], ◌∷◌}
@@ -20,11 +21,10 @@ use Rattle.refusals.specs.declared.ListRefusal.TheVariants.{Sheet as Unsound, Co
 use Rattle.sheet.specs.declared.Layout.{Layout}
 use Rattle.sheet.specs.Parts.{layout_of}
 use Rattle.sheet.proofs.Laws.{read_opened, read_unopened}
-use Rattle.list.specs.declared.Listed.{Listed}
-use Rattle.list.specs.declared.Listed.TheVariants.{Assignment, Refused}
 use Rattle.list.specs.Answer.{side_allowed, all_allowed, first_of, later_amount, side_amount, first_amount}
 use Rattle.list.specs.Answer.{is_zero, unless, columns_listed, sheet_listed, listed_of}
 use Rattle.list.specs.Returned.{number_of, amount_of, Long, Answers, Returned}
+use Rattle.refusals.specs.declared.ListRefusal.{ListRefusal}
 use Rattle.list.proofs.Amounts.{zero_true, zero_false, zero_first, zero_amount}
 
 -- two pairs of tests, regrouped
@@ -102,23 +102,23 @@ assignment_long s cs holds =
 -- with the number 0 all tests hold, and the layout is the one handed in
 pub tests-passed :
     (n a k : Bool) (z : ℤ) (l : Layout)
-    → let r = unless n Count (unless a Allowed (unless k (Distance z) (Assignment l))) in
-    number_of r ≡ 0 → ((n && (a && k)) ≡ true) × (r ≡ Assignment l)
+    → let r = unless n Count (unless a Allowed (unless k (Distance z) (Ok l))) in
+    number_of r ≡ 0 → ((n && (a && k)) ≡ true) × (r ≡ Ok l)
 tests-passed true true true z l e = (refl, refl)
 tests-passed true true false z l e = absurd (omega arith)
 tests-passed true false k z l e = absurd (omega arith)
 tests-passed false a k z l e = absurd (omega arith)
 
-module _ (bytes columns : List ℕ) (r : Listed) (answer : r ≡ listed_of bytes columns) where
+module _ (bytes columns : List ℕ) (r : Result Layout ListRefusal) (answer : r ≡ listed_of bytes columns) where
   -- the answer is known to be l
-  answers : (l : Listed) → listed_of bytes columns ≡ l → Answers (number_of l) (amount_of l) (number_of r) (amount_of r)
+  answers : (l : Result Layout ListRefusal) → listed_of bytes columns ≡ l → Answers (number_of l) (amount_of l) (number_of r) (amount_of r)
   answers l e = (ap number_of (answer ∙ e), ap amount_of (answer ∙ e))
 
   unsound : (n : ℕ) → read bytes ≡ refused n → Answers n (pos 0) (number_of r) (amount_of r)
   unfolding listed_of
   unsound n h =
       let (why, unopened, number) = read_unopened bytes n h in
-      let (same, none) = answers (Refused (Unsound why)) (rw unopened) in
+      let (same, none) = answers (Err (Unsound why)) (rw unopened) in
       (same ∙ number, none)
 
   module _ (s : Sheet) (h : read bytes ≡ sound s) where
@@ -128,18 +128,18 @@ module _ (bytes columns : List ℕ) (r : Listed) (answer : r ≡ listed_of bytes
 
     other : (Long s columns → ⊥) → Answers 12 (pos 0) (number_of r) (amount_of r)
     unfolding sheet_listed
-    other fails = answers (Refused Count) (of-sheet ∙ rw (ne_eqb _ _ fails))
+    other fails = answers (Err Count) (of-sheet ∙ rw (ne_eqb _ _ fails))
 
     beyond : Long s columns → all_allowed s columns ≡ false → Answers 13 (pos 0) (number_of r) (amount_of r)
     unfolding sheet_listed columns_listed
-    beyond long fails = answers (Refused Allowed) (of-sheet ∙ rw (eq-eqb _ _ long, fails))
+    beyond long fails = answers (Err Allowed) (of-sheet ∙ rw (eq-eqb _ _ long, fails))
 
     apart :
         Long s columns → all_allowed s columns ≡ true → (first_amount s columns ≡ pos 0 → ⊥)
         → Answers 14 (first_amount s columns) (number_of r) (amount_of r)
     unfolding sheet_listed columns_listed
     apart long all fails =
-        answers (Refused (Distance (first_amount s columns)))
+        answers (Err (Distance (first_amount s columns)))
         (of-sheet ∙ rw (eq-eqb _ _ long, all, zero_false (first_amount s columns) fails))
 
     passes : is_assignment s columns ≡ true → Answers 0 (pos 0) (number_of r) (amount_of r)
@@ -148,7 +148,7 @@ module _ (bytes columns : List ℕ) (r : Listed) (answer : r ≡ listed_of bytes
         let tests = sym (assignment_tests s columns) ∙ holds in
         let (long, both) = (and-eq-true_iff (eqb (length columns) (length s.top + length s.bottom)) _).0 tests in
         let (all, within) = (and-eq-true_iff (all_allowed s columns) (is_zero (first_amount s columns))).0 both in
-        answers (Assignment (layout_of bytes)) (of-sheet ∙ rw (long, all, zero_true (first_amount s columns) within))
+        answers (Ok (layout_of bytes)) (of-sheet ∙ rw (long, all, zero_true (first_amount s columns) within))
 
     only : number_of r ≡ 0 → is_assignment s columns ≡ true
     unfolding sheet_listed columns_listed

@@ -1,13 +1,12 @@
 -- Laws of 13 and 14 as a scan over the places of a side finds them.
 -- Assumes nothing.
-use Prim.Native.Nat.{ℕ, zero, suc, ◌+◌, ◌-◌, ◌≤◌, ◌<◌}
-use mathlib.Core.Path.{◌≡◌, refl, ap}
+use Prim.Native.Nat.{ℕ, ◌+◌, ◌-◌, ◌≤◌, ◌<◌}
+use mathlib.Core.Path.{◌≡◌, refl}
 use mathlib.Core.List.{List, [], ◌∷◌}
-use mathlib.Core.Bool.{Bool, true, false, cond, ◌&&◌}
+use mathlib.Core.Bool.{true, ◌&&◌}
 use native.Mathlib.Omega.{arith}
 use lib.ListN.{length, get_or, drop, drop_of_length-le}
-use lib.Dec.{eqb}
-use lib.IntN.{ℤ, pos}
+use lib.IntN.{pos}
 use Rattle.channel.specs.Sheet.{Terminal, no_terminal}
 use Rattle.channel.specs.Assignment.{allows}
 use Rattle.channel.specs.Distance.{amount}
@@ -16,8 +15,6 @@ use Rattle.terminal.specs.Terminal.{record_of}
 use Rattle.format.specs.Parts.{terminals_in}
 use Rattle.list.specs.Answer.{side_allowed, first_of, later_amount, side_amount}
 use Rattle.nets.proofs.Nets.{drop-next}
-use Rattle.list.specs.Inner.{side_at}
-use Rattle.list.proofs.Amounts.{first_found}
 
 -- one place of a side, of which r is the record: the rest is said by the places behind it
 module _ (part columns : List ℕ) (same : length columns ≡ length (terminals_in part)) (i : ℕ) (inside : i < length columns)
@@ -53,39 +50,3 @@ amount-first [] cs = refl
 amount-first (t ∷ ts) (c ∷ cs) = refl
 amount-first (t ∷ []) [] = refl
 amount-first (t ∷ u ∷ ts) [] = refl
-
--- 14 of side k, from the two sections and the two sides' columns
-abbrev pub amount_at : List ℕ → List ℕ → List ℕ → List ℕ → ℕ → ℤ
-amount_at top bottom tops bottoms k = side_amount (terminals_in (side_at top bottom k)) (side_at tops bottoms k)
-
--- each side has as many columns as terminals
-pub side_same :
-    (top bottom tops bottoms : List ℕ) → length tops ≡ length (terminals_in top) → length bottoms ≡ length (terminals_in bottom)
-    → (k : ℕ) → length (side_at tops bottoms k) ≡ length (terminals_in (side_at top bottom k))
-side_same top bottom tops bottoms h g k = go (eqb k 0)
-  where
-    go : (t : Bool) → length (cond t tops bottoms) ≡ length (terminals_in (cond t top bottom))
-    go true = h
-    go false = g
-
--- the first amount of the sides from k on: 0 is the top, 1 the bottom
-abbrev pub from_side : (ℕ → ℤ) → ℕ → ℤ
-from_side f zero = first_of (f 0) (f 1)
-from_side f (suc zero) = f 1
-from_side f (suc (suc k)) = pos 0
-
--- a side with none leaves it to the sides behind it, and one with an amount decides
-pub from-none : (f : ℕ → ℤ) (k : ℕ) → k < 2 → f k ≡ pos 0 → from_side f k ≡ from_side f (k + 1)
-from-none f zero h e = ap (λ (z : ℤ). first_of z (f 1)) e
-from-none f (suc zero) h e = e
-from-none f (suc (suc k)) h e = absurd (omega arith)
-
-pub from_found : (f : ℕ → ℤ) (k : ℕ) → k < 2 → (f k ≡ pos 0 → ⊥) → from_side f k ≡ f k
-from_found f zero h e = first_found (f 0) (f 1) e
-from_found f (suc zero) h e = refl
-from_found f (suc (suc k)) h e = absurd (omega arith)
-
-pub from_past : (f : ℕ → ℤ) (k : ℕ) → 2 ≤ k → from_side f k ≡ pos 0
-from_past f zero h = absurd (omega arith)
-from_past f (suc zero) h = absurd (omega arith)
-from_past f (suc (suc k)) h = refl

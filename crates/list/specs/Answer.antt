@@ -1,7 +1,7 @@
 -- Whether a column list is an assignment of a sheet, and else the first refusal that applies (document 01, "Column, crossing, density" and
 -- "The refusal list"; document 02, T-01).
 -- Assumes nothing.
-use Rattle.std.specs.Prelude.{ℕ, zero, suc, ◌+◌, List, [], ◌∷◌, Bool, true, false, cond, ◌&&◌, length, eqb, ℤ, pos, negsuc}
+use Rattle.std.specs.Prelude.{ℕ, zero, suc, ◌+◌, List, [], ◌∷◌, Bool, true, false, cond, ◌&&◌, length, eqb, ℤ, pos, negsuc, Result, Ok, Err}
 use Rattle.channel.specs.Sheet.{Terminal, Sheet}
 use Rattle.channel.specs.Assignment.{allows, top_columns, bottom_columns}
 use Rattle.channel.specs.Distance.{amount}
@@ -9,11 +9,8 @@ use Rattle.refusals.specs.declared.ListRefusal.{ListRefusal}
 use Rattle.refusals.specs.declared.ListRefusal.TheVariants.{Sheet as Unsound, Count, Allowed, Distance}
 use Rattle.soundness.specs.Read.{sheet_of}
 use Rattle.sheet.specs.declared.Layout.{Layout}
-use Rattle.sheet.specs.declared.Opened.{Opened}
-use Rattle.sheet.specs.declared.Opened.TheVariants as opened
 use Rattle.sheet.specs.Parts.{opened_of}
-use Rattle.list.specs.declared.Listed.{Listed}
-use Rattle.list.specs.declared.Listed.TheVariants.{Assignment, Refused}
+use Rattle.refusals.specs.declared.Refusal.{Refusal}
 
 -- 13 of one side: each listed column is in its terminal's set
 abbrev pub side_allowed : List Terminal → List ℕ → Bool
@@ -52,26 +49,26 @@ unfoldable pub first_amount : Sheet → List ℕ → ℤ
 first_amount s cs = first_of (side_amount s.top (top_columns s cs)) (side_amount s.bottom (bottom_columns s cs))
 
 -- refused for this reason unless the test holds
-abbrev pub unless : Bool → ListRefusal → Listed → Listed
+abbrev pub unless : Bool → ListRefusal → Result Layout ListRefusal → Result Layout ListRefusal
 unless true why next = next
-unless false why next = Refused why
+unless false why next = Err why
 
 -- 13 and 14 of a list that is p+q long
-unfoldable pub columns_listed : Sheet → List ℕ → Layout → Listed
+unfoldable pub columns_listed : Sheet → List ℕ → Layout → Result Layout ListRefusal
 columns_listed s cs n =
     unless (all_allowed s cs) Allowed
     (unless (is_zero (first_amount s cs)) (Distance (first_amount s cs))
-    (Assignment n))
+    (Ok n))
 
 -- "for a measurement 12, then 13 over all terminals, then 14 over all pairs"
-unfoldable pub sheet_listed : Sheet → List ℕ → Layout → Listed
+unfoldable pub sheet_listed : Sheet → List ℕ → Layout → Result Layout ListRefusal
 sheet_listed s cs n = unless (eqb (length cs) (length s.top + length s.bottom)) Count (columns_listed s cs n)
 
 -- "Order: 1 to 5 in turn. Then terminals .. Then .. for a measurement 12": what the sheet layer refuses comes first
-abbrev pub listed_as : Sheet → List ℕ → Opened → Listed
-listed_as s cs (opened.Sound n) = sheet_listed s cs n
-listed_as s cs (opened.Refused why) = Refused (Unsound why)
+abbrev pub listed_as : Sheet → List ℕ → Result Layout Refusal → Result Layout ListRefusal
+listed_as s cs (Ok n) = sheet_listed s cs n
+listed_as s cs (Err why) = Err (Unsound why)
 
 -- of a sheet's bytes and a column list
-unfoldable pub listed_of : List ℕ → List ℕ → Listed
+unfoldable pub listed_of : List ℕ → List ℕ → Result Layout ListRefusal
 listed_of b cs = listed_as (sheet_of b) cs (opened_of b)

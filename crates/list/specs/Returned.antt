@@ -1,24 +1,24 @@
 -- Demands 1 and 2 of the check of one column list, in the numbers of document 01's refusal list: of the number of its answer, 0 for an
 -- assignment, and of the amount that comes with it.
 -- Assumes nothing.
-use Rattle.std.specs.Prelude.{ℕ, ◌+◌, ◌≡◌, List, true, false, length, ℤ, pos}
+use Rattle.std.specs.Prelude.{ℕ, ◌+◌, ◌≡◌, List, true, false, length, ℤ, pos, Result, Ok, Err}
 use Rattle.channel.specs.Sheet.{Sheet}
 use Rattle.channel.specs.Assignment.{is_assignment}
 use Rattle.refusals.specs.Lists.{list_number, list_amount}
 use Rattle.soundness.specs.Read.{read}
 use Rattle.soundness.specs.Read.Read.{sound, refused}
-use Rattle.list.specs.declared.Listed.{Listed}
-use Rattle.list.specs.declared.Listed.TheVariants.{Assignment, Refused}
+use Rattle.sheet.specs.declared.Layout.{Layout}
+use Rattle.refusals.specs.declared.ListRefusal.{ListRefusal}
 use Rattle.list.specs.Answer.{all_allowed, first_amount}
 
 -- the number of an answer, and its amount
-abbrev pub number_of : Listed → ℕ
-number_of (Assignment n) = 0
-number_of (Refused why) = list_number why
+abbrev pub number_of : Result Layout ListRefusal → ℕ
+number_of (Ok n) = 0
+number_of (Err why) = list_number why
 
-abbrev pub amount_of : Listed → ℤ
-amount_of (Assignment n) = pos 0
-amount_of (Refused why) = list_amount why
+abbrev pub amount_of : Result Layout ListRefusal → ℤ
+amount_of (Ok n) = pos 0
+amount_of (Err why) = list_amount why
 
 -- "a list to measure is .. p+q long"
 abbrev pub Long : Sheet → List ℕ → Type 0

@@ -11,36 +11,28 @@ ghost use Rattle.list.specs.Answer.{listed_of, columns_listed};
 
 use refusals::ListRefusal;
 use rules::{all_allowed, first_amount};
-use sheet::{Layout, Opened};
+use sheet::Layout;
 
-// The answer of the check: an assignment, with the layout of its sheet, or the first refusal that applies.
-#[derive(Clone, Copy)]
-pub enum Listed {
-    Assignment(Layout),
-    Refused(ListRefusal),
-}
-
-// Checks a column list: 1 to 8 of the sheet, then 12, 13 and 14 of the list.
-pub fn check(s: &[u8], columns: &[u8]) -> Listed
+// Checks a column list: 1 to 8 of the sheet, then 12, 13 and 14 of the list; of an assignment it gives its sheet's layout.
+pub fn check(s: &[u8], columns: &[u8]) -> Result<Layout, ListRefusal>
     ensures { result ≡ listed_of s.now columns.now }
 {
-    let opened = sheet::open(s);
-    match opened {
-        Opened::Refused(why) => Listed::Refused(ListRefusal::Sheet(why)),
-        Opened::Sound(layout) => {
-            let shape = layout.shape;
-            if columns.len() != shape.pins {
-                return Listed::Refused(ListRefusal::Count);
-            }
-            let top = format::part_in(s, layout.top);
-            let bottom = format::part_in(s, layout.bottom);
-            check_columns(top, bottom, columns, layout)
-        }
+    let layout = sheet::open(s)?;
+    if columns.len() != layout.shape.pins {
+        return Err(ListRefusal::Count);
     }
+    let top = format::part_in(s, layout.top);
+    let bottom = format::part_in(s, layout.bottom);
+    check_columns(top, bottom, columns, layout)
 }
 
 // 13 and 14 of a list that is p+q long, from the two sections.
-fn check_columns<'a>(top: &'a [u8], bottom: &'a [u8], columns: &[u8], layout: Layout) -> Listed
+fn check_columns<'a>(
+    top: &'a [u8],
+    bottom: &'a [u8],
+    columns: &[u8],
+    layout: Layout,
+) -> Result<Layout, ListRefusal>
     requires { (layout.shape.top ≡ length (terminals_in top.now))
         × (length columns.now ≡ layout.shape.top + length (terminals_in bottom.now)) }
     ensures { result ≡ columns_listed (sheet_in layout.shape.columns top.now bottom.now)
@@ -51,14 +43,14 @@ fn check_columns<'a>(top: &'a [u8], bottom: &'a [u8], columns: &[u8], layout: La
     let tops = &columns[..p];
     let bottoms = &columns[p..];
     if !all_allowed(top, tops) {
-        return Listed::Refused(ListRefusal::Allowed);
+        return Err(ListRefusal::Allowed);
     }
     if !all_allowed(bottom, bottoms) {
-        return Listed::Refused(ListRefusal::Allowed);
+        return Err(ListRefusal::Allowed);
     }
     let amount = first_amount(top, bottom, tops, bottoms);
     if amount != 0 {
-        return Listed::Refused(ListRefusal::Distance(amount));
+        return Err(ListRefusal::Distance(amount));
     }
-    Listed::Assignment(layout)
+    Ok(layout)
 }

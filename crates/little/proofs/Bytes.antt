@@ -1,13 +1,8 @@
 -- Laws of a number in bytes.
 -- Assumes nothing.
-use Prim.Native.Nat.{ℕ, suc, ◌+◌, ◌-◌, ◌*◌, ◌^◌, ◌≤◌, ◌<◌}
-use mathlib.Core.Path.{◌≡◌, refl, ◌∙◌, ap, ap₂}
-use mathlib.Core.List.{List}
-use native.Mathlib.Omega.{arith}
-use native.Mathlib.Nat.{add_comm, mul_comm, sub_self, lt_of_lt_of_le}
-use lib.ListN.{get_or}
+use Rattle.std.proofs.Common.{◌≡◌, ℕ, suc, ◌+◌, ◌-◌, ◌*◌, ◌^◌, ◌<◌, ◌≤◌, List, get_or, refl, ap, ◌∙◌, ap₂, lt_of_lt_of_le, mul_comm, add_comm, arith, pow_mono, pow-add}
+use native.Mathlib.Nat.{sub_self}
 use lib.Arith.{digits_lt}
-use lib.Pow.{pow-add, pow_mono}
 use Rattle.little.specs.Little.{little}
 
 -- one byte more at the front

@@ -1,10 +1,6 @@
 -- What the layers above use of a number in bytes: n bytes hold a number below 256 ^ n.
 -- Assumes nothing.
-use Prim.Native.Nat.{ℕ, zero, suc, ◌^◌, ◌<◌}
-use mathlib.Core.List.{List}
-use native.Mathlib.Omega.{arith}
-use native.Mathlib.Nat.{pow-suc}
-use lib.ListN.{get_or}
+use Rattle.std.proofs.Common.{ℕ, zero, suc, ◌^◌, ◌<◌, List, get_or, pow-suc, arith}
 use Rattle.little.specs.Little.{little}
 
 pub little-below : (b : List ℕ) → ((j : ℕ) → get_or b j 0 < 256) → (n i : ℕ) → little n b i < 256 ^ n

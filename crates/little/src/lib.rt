@@ -10,10 +10,8 @@ pub fn read_number(s: &[u8], at: usize, n: usize) -> u64
     ensures { (result ≡ little n s.now at) × (result < 2 ^ (8 * n)) }
 {
     let mut value: u64 = 0;
-    let mut left = n;
-    while 0 < left {
-        left -= 1;
-        value = value * 256 + s[at + left] as u64;
+    for i in (0..n).rev() {
+        value = value * 256 + s[at + i] as u64;
     }
     value
 }

@@ -1,11 +1,8 @@
 -- What the nets of two sections, one behind the other, say of the two sides.
 -- Assumes nothing.
-use Prim.Native.Nat.{ℕ, ◌+◌, ◌≤◌}
-use mathlib.Core.Path.{◌≡◌, sym, ◌∙◌}
-use mathlib.Core.List.{List, ◌++◌, map-append}
-use native.Mathlib.Omega.{arith}
-use lib.ListN.{length, take, drop, length-map, length-append}
-use lib.Seq.{take_at, drop_at}
+use Rattle.std.proofs.Common.{ℕ, ◌+◌, ◌≤◌, ◌≡◌, sym, ◌∙◌, List, ◌++◌, arith, length, take, drop, length-append, take_at, drop_at}
+use mathlib.Core.List.{map-append}
+use lib.ListN.{length-map}
 use Rattle.channel.specs.Sheet.{Terminal}
 use Rattle.channel.specs.Cut.{nets}
 use Rattle.format.specs.Parts.{terminals_in}

@@ -1,20 +1,12 @@
 -- Why the loads of all cuts, put in cut by cut, are all in.
 -- Assumes nothing.
-use Prim.Native.Nat.{ℕ, zero, suc, ◌+◌, ◌≤◌, ◌<◌}
-use mathlib.Core.Path.{◌≡◌, refl, ◌∙◌, ap}
-use mathlib.Core.List.{List}
-use mathlib.Core.Bool.{cond, ◌||◌}
-use mathlib.Core.Logic.{◌⊎◌, inl, inr, ⊎_elim}
-use native.Mathlib.Omega.{arith}
-use native.Mathlib.Nat.{eq-or-lt_of_le}
-use lib.ListN.{length}
-use lib.Dec.{eqb}
-use borrow.Author.Tests.{ne_eqb}
+use Rattle.std.proofs.Common.{ℕ, zero, suc, ◌+◌, ◌≤◌, ◌<◌, ◌≡◌, refl, sym, ◌∙◌, ap, List, cond, ◌||◌, ◌⊎◌, inl, inr, ⊎_elim, arith, eq-or-lt_of_le, length, eqb, ne_eqb}
 use Rattle.arrays.specs.Rules.{pins}
 use Rattle.arrays.specs.Loads.{load_bytes, load_at, put_loads}
-use Rattle.arrays.proofs.Loads.{length-put_loads, top-put, bottom-put, both-put, load-put_other}
-use Rattle.cut.specs.declared.Loads.{Loads}
+use Rattle.arrays.proofs.Cuts.{length-put_loads, top-put, bottom-put, both-put, load-put_other}
+use Rattle.arrays.specs.declared.Loads.{Loads}
 use Rattle.load.specs.Cuts.{Cell, LoadsRead, Written}
+use Rattle.places.specs.declared.NetPlaces.{NetPlaces}
 use Rattle.places.specs.Places.{Listed}
 use Rattle.cut.specs.Counts.{cut_of, loads_at, possible_loads}
 use Rattle.cut.proofs.Crossings.{top-load, bottom-load, both-load}
@@ -29,15 +21,16 @@ kept_both zero j x y h = refl
 kept_both (suc i) j x y h = rw (ne_eqb (suc i) 0 (λ e. omega arith)) (kept j x y (h (omega arith)))
 
 -- the loads of a cut, put in
-pub write_cell : (tops bottoms places : List ℕ) → Listed tops bottoms places
+pub write_cell : (tops bottoms : List ℕ) (places : List NetPlaces) → Listed tops bottoms places
     → (i j : ℕ) → i ≤ length tops → j ≤ length bottoms
     → (old new : List ℕ) (l m : Loads)
-    → length old ≡ load_bytes
+    → length new ≡ load_bytes
     → l ≡ loads_at places (cut_of tops bottoms i j)
     → m ≡ possible_loads l i j
     → new ≡ put_loads old i j m.top m.bottom m.both
     → Written tops bottoms old new (λ x y. (x ≡ i) × (y ≡ j))
-write_cell tops bottoms places listed i j h k old new l m size e f s =
+write_cell tops bottoms places listed i j h k old new l m all e f s =
+    let size : length old ≡ load_bytes = sym (length-put_loads old i j m.top m.bottom m.both) ∙ ap length (sym s) ∙ all in
     let put : m ≡ possible_loads (loads_at places (cut_of tops bottoms i j)) i j = f ∙ ap (λ (n : Loads). possible_loads n i j) e in
     let t : i ≤ pins = omega (arith, listed.top) in
     let b : j ≤ pins = omega (arith, listed.bottom) in

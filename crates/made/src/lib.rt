@@ -1,44 +1,33 @@
-// The answer about two sides of modules, and its number and length by the refusal list.
+// The answer about two sides of modules, and its number by the refusal list.
 #![tactic(auto)]
 
 ghost use Rattle.std.specs.Prelude.{◌≡◌};
-ghost use Rattle.made.specs.Numbers.{number_of, length_of};
+ghost use Rattle.made.specs.Numbers.{module_number};
 
-use refusals::Refusal;
+use refusals::{Reason, Refusal};
 
-// The length of the sheet that was written, or why there is none: its form or its nets would be refused, a module breaks its rule or has a
-// left edge outside the channel, or the sheet buffer is too short.
-#[derive(Clone, Copy)]
-pub enum Made {
-    Written(usize),
+// The length of the sheet that was written, or why there is none.
+pub type Made = Result<usize, ModuleRefusal>;
+
+// Why no sheet is made: its form or its nets would be refused, a module breaks its rule or has a left edge outside the channel, or the sheet
+// buffer is too short.
+#[derive(Clone, Copy, Debug, PartialEq, Eq)]
+pub enum ModuleRefusal {
     Sheet(Refusal),
     Module,
     Edge,
     SheetBuffer,
 }
 
-// The number of a refusal; 0 with a sheet.
-pub fn number_of(answer: Made) -> u8
-    ensures { result ≡ number_of answer }
-{
-    match answer {
-        Made::Written(_) => 0,
-        Made::Sheet(why) => refusals::number_of(why),
-        Made::Module => 16,
-        Made::Edge => 17,
-        Made::SheetBuffer => 9,
-    }
-}
+impl Reason for ModuleRefusal {
+    ghost number = { module_number };
 
-// The length of the sheet; 0 with a refusal.
-pub fn length_of(answer: Made) -> usize
-    ensures { result ≡ length_of answer }
-{
-    match answer {
-        Made::Written(length) => length,
-        Made::Sheet(_) => 0,
-        Made::Module => 0,
-        Made::Edge => 0,
-        Made::SheetBuffer => 0,
+    fn number(self) -> u8 {
+        match self {
+            ModuleRefusal::Sheet(refusal) => refusal.number(),
+            ModuleRefusal::Module => 16,
+            ModuleRefusal::Edge => 17,
+            ModuleRefusal::SheetBuffer => 9,
+        }
     }
 }

@@ -1,5 +1,6 @@
 -- A measurement, from what the list's check and the counting answer.
 -- Assumes nothing.
+use Rattle.std.proofs.Common.{Ok, Err}
 use Prim.Native.Nat.{ℕ}
 use mathlib.Core.Path.{◌≡◌, ◌∙◌, ap}
 use mathlib.Core.List.{List}
@@ -14,19 +15,17 @@ use Rattle.sheet.specs.declared.Shape.{Shape}
 use Rattle.format.specs.Parts.{bytes_of}
 use Rattle.sheet.specs.Parts.{sheet_in}
 use Rattle.sheet.proofs.Laws.{same_sheet, same_shape}
-use Rattle.list.specs.declared.Listed.TheVariants as listed
 use Rattle.list.specs.Answer.{listed_of}
 use Rattle.list.proofs.Laws.{Assigns, assigns}
 use Rattle.density.specs.Counted.{AsksDensity}
-use Rattle.measured.specs.declared.Measured.TheVariants.{Density, Refused}
 use Rattle.measure.specs.Answer.{measured_of}
 
-pub list_refused : (b cs : List ℕ) (why : ListRefusal) → listed_of b cs ≡ listed.Refused why → Refused why ≡ measured_of b cs
+pub list_refused : (b cs : List ℕ) (why : ListRefusal) → listed_of b cs ≡ Err why → Err why ≡ measured_of b cs
 unfolding measured_of
 list_refused b cs why e = rw e
 
 -- an assignment, beside the two sections of its sheet
-module _ (b cs : List ℕ) (n : Layout) (answer : listed_of b cs ≡ listed.Assignment n) (top bottom : List ℕ)
+module _ (b cs : List ℕ) (n : Layout) (answer : listed_of b cs ≡ Ok n) (top bottom : List ℕ)
     (is_top : top ≡ bytes_of b n.top) (is_bottom : bottom ≡ bytes_of b n.bottom) where
   laws : Assigns b cs n
   laws = assigns b cs n answer
@@ -45,7 +44,7 @@ module _ (b cs : List ℕ) (n : Layout) (answer : listed_of b cs ≡ listed.Assi
         short = omega (arith, ap (λ (f : Shape). f.columns) whole, s.columns);
       }
 
-  pub density_counted : (d : ℕ) → d ≡ density (sheet_in n.shape.columns top bottom) cs → Density d ≡ measured_of b cs
+  pub density_counted : (d : ℕ) → d ≡ density (sheet_in n.shape.columns top bottom) cs → Ok d ≡ measured_of b cs
   unfolding measured_of
   density_counted d e =
-      rw answer (ap Density (e ∙ ap (λ (s : Sheet). density s cs) (same_sheet b n laws.opens top bottom is_top is_bottom)))
+      rw answer (ap Ok (e ∙ ap (λ (s : Sheet). density s cs) (same_sheet b n laws.opens top bottom is_top is_bottom)))

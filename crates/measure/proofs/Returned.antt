@@ -1,5 +1,6 @@
 -- What a measurement returned: the number and the amount of the list's check, and a density exactly where the list is an assignment.
 -- Assumes nothing.
+use Rattle.std.proofs.Common.{Result, Ok, Err}
 use Prim.Native.Nat.{ℕ}
 use mathlib.Core.Path.{◌≡◌, refl, sym, ◌∙◌, ap}
 use mathlib.Core.List.{List}
@@ -9,35 +10,34 @@ use Rattle.soundness.specs.Read.{sheet_of, read}
 use Rattle.soundness.specs.Read.Read.{sound}
 use Rattle.soundness.proofs.Laws.{read_checked}
 use Rattle.refusals.proofs.Refused.{list_number_some}
-use Rattle.list.specs.declared.Listed.{Listed}
-use Rattle.list.specs.declared.Listed.TheVariants as listed
 use Rattle.list.specs.Answer.{listed_of}
 use Rattle.list.specs.Returned as list
 use Rattle.list.proofs.Returned.{one_list}
-use Rattle.measured.specs.declared.Measured.{Measured}
 use Rattle.measured.specs.Numbers.{number_of, density_of, amount_of}
 use Rattle.measure.specs.Answer.{measured_as, measured_of}
+use Rattle.sheet.specs.declared.Layout.{Layout}
+use Rattle.refusals.specs.declared.ListRefusal.{ListRefusal}
 use Rattle.measure.specs.Returned.{Returned}
 
 -- a measurement has the number and the amount of the list's check, and a density only with the number 0
 module _ (s : Sheet) (cs : List ℕ) where
-  same_number : (l : Listed) → number_of (measured_as s cs l) ≡ list.number_of l
-  same_number (listed.Assignment n) = refl
-  same_number (listed.Refused why) = refl
+  same_number : (l : Result Layout ListRefusal) → number_of (measured_as s cs l) ≡ list.number_of l
+  same_number (Ok n) = refl
+  same_number (Err why) = refl
 
-  same_amount : (l : Listed) → amount_of (measured_as s cs l) ≡ list.amount_of l
-  same_amount (listed.Assignment n) = refl
-  same_amount (listed.Refused why) = refl
+  same_amount : (l : Result Layout ListRefusal) → amount_of (measured_as s cs l) ≡ list.amount_of l
+  same_amount (Ok n) = refl
+  same_amount (Err why) = refl
 
-  refused-density : (l : Listed) → (list.number_of l ≡ 0 → ⊥) → density_of (measured_as s cs l) ≡ 0
-  refused-density (listed.Assignment n) h = absurd (h refl)
-  refused-density (listed.Refused why) h = refl
+  refused-density : (l : Result Layout ListRefusal) → (list.number_of l ≡ 0 → ⊥) → density_of (measured_as s cs l) ≡ 0
+  refused-density (Ok n) h = absurd (h refl)
+  refused-density (Err why) h = refl
 
-  assigned_density : (l : Listed) → list.number_of l ≡ 0 → density_of (measured_as s cs l) ≡ density s cs
-  assigned_density (listed.Assignment n) e = refl
-  assigned_density (listed.Refused why) e = absurd (list_number_some why e)
+  assigned_density : (l : Result Layout ListRefusal) → list.number_of l ≡ 0 → density_of (measured_as s cs l) ≡ density s cs
+  assigned_density (Ok n) e = refl
+  assigned_density (Err why) e = absurd (list_number_some why e)
 
-module _ (bytes columns : List ℕ) (r : Measured) (answer : r ≡ measured_of bytes columns) where
+module _ (bytes columns : List ℕ) (r : Result ℕ ListRefusal) (answer : r ≡ measured_of bytes columns) where
   number : number_of r ≡ list.number_of (listed_of bytes columns)
   unfolding measured_of
   number = ap number_of answer ∙ same_number (sheet_of bytes) columns (listed_of bytes columns)

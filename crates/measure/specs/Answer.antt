@@ -1,20 +1,18 @@
 -- What a measurement answers (document 01, "Column, crossing, density" and "The refusal list").
 -- Assumes nothing.
-use Rattle.std.specs.Prelude.{ℕ, List}
+use Rattle.std.specs.Prelude.{ℕ, List, Result, Ok, Err}
 use Rattle.channel.specs.Sheet.{Sheet}
 use Rattle.channel.specs.Density.{density}
 use Rattle.soundness.specs.Read.{sheet_of}
-use Rattle.list.specs.declared.Listed.{Listed}
-use Rattle.list.specs.declared.Listed.TheVariants as listed
 use Rattle.list.specs.Answer.{listed_of}
-use Rattle.measured.specs.declared.Measured.{Measured}
-use Rattle.measured.specs.declared.Measured.TheVariants.{Density, Refused}
+use Rattle.sheet.specs.declared.Layout.{Layout}
+use Rattle.refusals.specs.declared.ListRefusal.{ListRefusal}
 
 -- the density of an assignment, or why the list is none
-abbrev pub measured_as : Sheet → List ℕ → Listed → Measured
-measured_as s cs (listed.Assignment n) = Density (density s cs)
-measured_as s cs (listed.Refused why) = Refused why
+abbrev pub measured_as : Sheet → List ℕ → Result Layout ListRefusal → Result ℕ ListRefusal
+measured_as s cs (Ok n) = Ok (density s cs)
+measured_as s cs (Err why) = Err why
 
 -- of a sheet's bytes and a column list
-unfoldable pub measured_of : List ℕ → List ℕ → Measured
+unfoldable pub measured_of : List ℕ → List ℕ → Result ℕ ListRefusal
 measured_of b cs = measured_as (sheet_of b) cs (listed_of b cs)

@@ -5,21 +5,16 @@ ghost use Rattle.std.specs.Prelude.{◌≡◌};
 ghost use Rattle.measure.specs.Answer.{measured_of};
 
 use density::list_density;
-use list::Listed;
 use measured::Measured;
 
 // Measures a column list: 1 to 8 of the sheet, then 12, 13 and 14 of the list, otherwise its density.
+#[tactic(auto, using(crate::proofs::Measures::list_refused, crate::proofs::Measures::density_counted))]
 pub fn measure(s: &[u8], columns: &[u8]) -> Measured
     ensures { result ≡ measured_of s.now columns.now }
 {
-    let listed = list::check(s, columns);
-    match listed {
-        Listed::Refused(why) => Measured::Refused(why),
-        Listed::Assignment(layout) => {
-            let shape = layout.shape;
-            let top = format::part_in(s, layout.top);
-            let bottom = format::part_in(s, layout.bottom);
-            Measured::Density(list_density(top, bottom, columns, shape.top, shape.columns))
-        }
-    }
+    let layout = list::check(s, columns)?;
+    let shape = layout.shape;
+    let top = format::part_in(s, layout.top);
+    let bottom = format::part_in(s, layout.bottom);
+    Ok(list_density(top, bottom, columns, shape.top, shape.columns))
 }

@@ -24,32 +24,22 @@ struct PinTests {
     named: bool,
 }
 
-fn both(a: bool, b: bool) -> bool
-    ensures { result ≡ (a && b) }
-{
-    a && b
-}
-
 // Whether the offsets of a module's pins rise within its width, and whether all its nets are named.
 fn check_pins(side: &[u8], head: Head) -> PinTests
     requires { head.start + pin_size * head.count ≤ length side.now }
     ensures { result ≡ pin_tests_of (module_of side.now head) }
 {
-    let mut at = head.start;
-    let mut left = head.count;
     let mut before = 0u8;
     let mut rising = true;
     let mut named = true;
-    while 0 < left {
-        let pin = pin_at(side, at);
-        rising = both(rising, before < pin.offset);
-        named = both(named, pin.net != 0);
+    for i in 0..head.count {
+        let pin = pin_at(side, head.start + PIN * i);
+        rising &= before < pin.offset;
+        named &= pin.net != 0;
         before = pin.offset;
-        at += PIN;
-        left -= 1;
     }
     PinTests {
-        rising: both(rising, before <= head.width),
+        rising: rising && before <= head.width,
         named,
     }
 }
@@ -59,11 +49,7 @@ fn last_edge(columns: usize, width: usize) -> usize
     requires { columns ≤ 64 }
     ensures { result ≡ columns + 1 - width }
 {
-    if width <= columns {
-        columns + 1 - width
-    } else {
-        0
-    }
+    (columns + 1).saturating_sub(width)
 }
 
 // The tests of one module.
@@ -72,12 +58,12 @@ fn check_module(side: &[u8], head: Head, columns: usize) -> Tests
     ensures { result ≡ module_tests columns (module_of side.now head) }
 {
     let pins = check_pins(side, head);
-    let wide = both(1 <= head.width, head.width <= 64);
-    let some = both(1 <= head.count, pins.rising);
+    let wide = (1 <= head.width) & (head.width <= 64);
+    let some = (1 <= head.count) & pins.rising;
     let beyond = names_above(head.edges, last_edge(columns, head.width as usize));
     Tests {
         pins: head.count,
-        valid: both(wide, some),
+        valid: wide & some,
         within: !beyond,
         named: pins.named,
     }
@@ -90,9 +76,9 @@ pub fn combine(a: Tests, b: Tests) -> Tests
 {
     Tests {
         pins: a.pins + b.pins,
-        valid: both(a.valid, b.valid),
-        within: both(a.within, b.within),
-        named: both(a.named, b.named),
+        valid: a.valid && b.valid,
+        within: a.within && b.within,
+        named: a.named && b.named,
     }
 }
 
@@ -109,6 +95,7 @@ pub fn check_modules(side: &[u8], columns: usize) -> Tests
         within: true,
         named: true,
     };
+    // no `for`: each module moves the place by its own length
     while at < side.len() {
         let head = head_in(side, at);
         all = combine(all, check_module(side, head, columns));
@@ -117,7 +104,7 @@ pub fn check_modules(side: &[u8], columns: usize) -> Tests
     }
     Tests {
         pins: all.pins,
-        valid: both(all.valid, count <= 16),
+        valid: all.valid & (count <= 16),
         within: all.within,
         named: all.named,
     }

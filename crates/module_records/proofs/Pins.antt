@@ -1,15 +1,7 @@
 -- What 16 and 17 leave of a module, pin by pin: the record of each can be written, and so many bytes hold them.
 -- Assumes nothing.
-use Prim.Native.Nat.{ℕ, zero, suc, ◌+◌, ◌-◌, ◌*◌, ◌^◌, ◌≤◌, ◌<◌}
-use mathlib.Core.Path.{◌≡◌, ◌∙◌, ap}
-use mathlib.Core.List.{List, ◌∷◌}
-use mathlib.Core.Bool.{◌&&◌, and-eq-true_iff}
-use native.Mathlib.Omega.{arith}
-use native.Mathlib.Nat.{mul-le-mul_left, lt_of_le_of_lt}
-use lib.ListN.{length}
-use lib.Dec.{leb, ltb}
-use lib.Pow.{pow_mono}
-use borrow.Author.Tests.{leb-true, ltb-true}
+use Rattle.std.proofs.Common.{◌≡◌, ℕ, zero, suc, ◌+◌, ◌-◌, ◌*◌, ◌^◌, ◌<◌, ◌≤◌, ◌&&◌, ltb, leb, List, ◌∷◌, length, ap, ◌∙◌, lt_of_le_of_lt, mul-le-mul_left, arith, pow_mono, ltb-true, leb-true}
+use mathlib.Core.Bool.{and-eq-true_iff}
 use Rattle.format.specs.Format.{record_size}
 use Rattle.encode.specs.Encode.{section_bytes}
 use Rattle.encode.proofs.Lengths.{length-section}

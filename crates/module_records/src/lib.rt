@@ -2,7 +2,7 @@
 #![tactic(auto)]
 
 ghost use Rattle.std.specs.Prelude.{◌≡◌, ◌+◌, ◌-◌, ◌*◌, ◌^◌, ◌≤◌, ◌<◌, length};
-ghost use Rattle.text.specs.Writing.{Wrote};
+ghost use Rattle.text.specs.Writing.{Writes};
 ghost use Rattle.terminal.specs.Terminal.{record_of};
 ghost use Rattle.format.specs.Format.{record_size};
 ghost use Rattle.encode.specs.Encode.{section_bytes};
@@ -14,6 +14,7 @@ ghost use Rattle.module_records.specs.Writable.{Later, Writable, AllWritable};
 use encode::put_record;
 use modules::{Head, PIN, Pin, head_in, pin_at};
 use terminal::Record;
+use text::Writer;
 
 // The record of a pin: the module's set moved right by the pin's offset less 1.
 fn record_of(pin: Pin, edges: u64, least: u8, greatest: u8) -> Record
@@ -29,27 +30,19 @@ fn record_of(pin: Pin, edges: u64, least: u8, greatest: u8) -> Record
 }
 
 // The records of a module's pins behind the first: each at its distance from the one before.
-fn put_inner(out: &mut [u8], at: usize, side: &[u8], head: Head, before: u8) -> usize
+fn put_inner(out: &mut Writer, side: &[u8], head: Head, before: u8)
     requires { (1 ≤ head.count) × (head.start + pin_size * head.count ≤ length side.now)
-        × (at + record_size * (head.count - 1) ≤ length out.old)
+        × (out.old.end + record_size * (head.count - 1) ≤ length out.old.out.now)
         × Later head.width head.edges before (pins_from side.now (head.start + pin_size) (head.count - 1)) }
-    ensures { Wrote out.old at
-        (section_bytes (inner_terminals head.edges before (pins_from side.now (head.start + pin_size) (head.count - 1))))
-        out.new result }
+    ensures { Writes out.old out.new (section_bytes (inner_terminals head.edges before (pins_from side.now (head.start + pin_size) (head.count - 1)))) }
 {
-    let mut end = at;
-    let mut place = head.start + PIN;
-    let mut left = head.count - 1;
     let mut last = before;
-    while 0 < left {
-        let pin = pin_at(side, place);
+    for i in 1..head.count {
+        let pin = pin_at(side, head.start + PIN * i);
         let distance = pin.offset - last;
-        end = put_record(out, end, record_of(pin, head.edges, distance, distance));
+        put_record(out, record_of(pin, head.edges, distance, distance));
         last = pin.offset;
-        place += PIN;
-        left -= 1;
     }
-    end
 }
 
 // The least distance of a module's first pin: the gap that the module before leaves, and the pin's own offset.
@@ -67,17 +60,16 @@ fn first_greatest(first: bool) -> u8
 }
 
 // The records of one module.
-fn put_module(out: &mut [u8], at: usize, side: &[u8], head: Head, first: bool, gap: u8) -> usize
+fn put_module(out: &mut Writer, side: &[u8], head: Head, first: bool, gap: u8)
     requires { Writable (module_of side.now head) × (gap ≤ 64) × (head.start + pin_size * head.count ≤ length side.now)
-        × (at + record_size * head.count ≤ length out.old) }
-    ensures { Wrote out.old at (section_bytes (module_terminals first gap (module_of side.now head)))
-        out.new result }
+        × (out.old.end + record_size * head.count ≤ length out.old.out.now) }
+    ensures { Writes out.old out.new (section_bytes (module_terminals first gap (module_of side.now head))) }
 {
     let pin = pin_at(side, head.start);
     let least = first_least(first, gap, pin.offset);
     let greatest = first_greatest(first);
-    let end = put_record(out, at, record_of(pin, head.edges, least, greatest));
-    put_inner(out, end, side, head, pin.offset)
+    put_record(out, record_of(pin, head.edges, least, greatest));
+    put_inner(out, side, head, pin.offset);
 }
 
 // The gap that a module leaves right of its last pin.
@@ -91,20 +83,20 @@ fn gap_of(side: &[u8], head: Head) -> u8
 }
 
 // The records of a side.
-pub fn put_modules(out: &mut [u8], at: usize, side: &[u8]) -> usize
-    requires { AllWritable (modules_in side.now) × (at + record_size * pin_count (modules_in side.now) ≤ length out.old) }
-    ensures { Wrote out.old at (section_bytes (side_terminals (modules_in side.now))) out.new result }
+pub fn put_modules(out: &mut Writer, side: &[u8])
+    requires { AllWritable (modules_in side.now)
+        × (out.old.end + record_size * pin_count (modules_in side.now) ≤ length out.old.out.now) }
+    ensures { Writes out.old out.new (section_bytes (side_terminals (modules_in side.now))) }
 {
-    let mut end = at;
     let mut place = 0;
     let mut first = true;
     let mut gap = 0u8;
+    // no `for`: each module moves the place by its own length
     while place < side.len() {
         let head = head_in(side, place);
-        end = put_module(out, end, side, head, first, gap);
+        put_module(out, side, head, first, gap);
         gap = gap_of(side, head);
         first = false;
         place = head.end;
     }
-    end
 }

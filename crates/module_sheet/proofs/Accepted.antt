@@ -1,5 +1,6 @@
 -- What holds of two sides of modules that no answer refuses, and that their sheet can be written.
 -- Assumes nothing.
+use Rattle.std.proofs.Common.{Result, Ok, Err}
 use Prim.Native.Nat.{ℕ, ◌≤◌}
 use mathlib.Core.Path.{◌≡◌, refl}
 use mathlib.Core.List.{List, [], ◌∷◌}
@@ -17,13 +18,13 @@ use Rattle.modules.proofs.Moved.{moved_fits}
 use Rattle.modules.proofs.Sound.{valid_parts}
 use Rattle.module_check.specs.Tests.{tests_of, combined}
 use Rattle.module_records.specs.Writable.{AllWritable}
-use Rattle.made.specs.declared.Made.{Made}
-use Rattle.made.specs.declared.Made.TheVariants.{Written, Sheet as Unsound, Module as Invalid, Edge, SheetBuffer}
+use Rattle.made.specs.declared.ModuleRefusal.{ModuleRefusal}
+use Rattle.made.specs.declared.ModuleRefusal.TheVariants.{Sheet as Unsound, Module as Invalid, Edge, SheetBuffer}
 use Rattle.made.specs.Numbers.{number_of}
 use Rattle.module_sheet.specs.Answer.{unless, answer_of, answer_in}
 
 pub record Accepted (l : ℕ) (top bottom : List Module) (room : ℕ) : Type 0 where
-  pub answer : answer_in l top bottom room ≡ Written (sheet_size (pin_count top) (pin_count bottom))
+  pub answer : answer_in l top bottom room ≡ Ok (sheet_size (pin_count top) (pin_count bottom))
   pub columns : (1 ≤ l) × (l ≤ 64)
   pub valid : (every is_valid top ≡ true) × (every is_valid bottom ≡ true)
   pub within : (every (is_within l) top ≡ true) × (every (is_within l) bottom ≡ true)
@@ -32,7 +33,7 @@ pub record Accepted (l : ℕ) (top bottom : List Module) (room : ℕ) : Type 0 w
   pub size : sheet_size (pin_count top) (pin_count bottom) ≤ room
 
 -- an answer with number 0 comes from no refusal
-passes : (t : Bool) (why next : Made) → (number_of why ≡ 0 → ⊥) → number_of (unless t why next) ≡ 0 → (t ≡ true) × (number_of next ≡ 0)
+passes : (t : Bool) (why next : Result ℕ ModuleRefusal) → (number_of why ≡ 0 → ⊥) → number_of (unless t why next) ≡ 0 → (t ≡ true) × (number_of next ≡ 0)
 passes true why next h e = (refl, e)
 passes false why next h e = absurd (h e)
 
@@ -42,12 +43,12 @@ accepted l top bottom room h =
     let t = combined (tests_of l top) (tests_of l bottom) in
     let p : ℕ = pin_count top in
     let q : ℕ = pin_count bottom in
-    let (e₃, h₁₆) = passes (leb 1 l && leb l 64) (Unsound Length) _ (λ e. omega arith) h in
-    let (e₁₆, h₁₇) = passes t.valid Invalid _ (λ e. omega arith) h₁₆ in
-    let (e₁₇, h₄) = passes t.within Edge _ (λ e. omega arith) h₁₇ in
-    let (e₄, h₆) = passes (leb p 64 && leb q 64) (Unsound Count) _ (λ e. omega arith) h₄ in
-    let (e₆, h₉) = passes t.named (Unsound Net) _ (λ e. omega arith) h₆ in
-    let (e₉, _) = passes (leb (sheet_size p q) room) SheetBuffer (Written (sheet_size p q)) (λ e. omega arith) h₉ in
+    let (e₃, h₁₆) = passes (leb 1 l && leb l 64) (Err (Unsound Length)) _ (λ e. omega arith) h in
+    let (e₁₆, h₁₇) = passes t.valid (Err Invalid) _ (λ e. omega arith) h₁₆ in
+    let (e₁₇, h₄) = passes t.within (Err Edge) _ (λ e. omega arith) h₁₇ in
+    let (e₄, h₆) = passes (leb p 64 && leb q 64) (Err (Unsound Count)) _ (λ e. omega arith) h₄ in
+    let (e₆, h₉) = passes t.named (Err (Unsound Net)) _ (λ e. omega arith) h₆ in
+    let (e₉, _) = passes (leb (sheet_size p q) room) (Err SheetBuffer) (Ok (sheet_size p q)) (λ e. omega arith) h₉ in
     let (low, high) = (and-eq-true_iff (leb 1 l) (leb l 64)).0 e₃ in
     let (st, sb) = (and-eq-true_iff (are_valid top) (are_valid bottom)).0 e₁₆ in
     let (few, few') = (and-eq-true_iff (leb p 64) (leb q 64)).0 e₄ in

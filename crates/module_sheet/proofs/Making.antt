@@ -1,5 +1,6 @@
 -- A refusal leaves the sheet buffer, and a sheet that was written is read back.
 -- Assumes nothing.
+use Rattle.std.proofs.Common.{Result, Ok, Err}
 use Prim.Native.Nat.{ℕ, ◌≤◌, ◌<◌}
 use mathlib.Core.Path.{◌≡◌, refl, sym, ◌∙◌, ap, ap₂}
 use mathlib.Core.List.{List, ◌++◌}
@@ -23,36 +24,41 @@ use Rattle.modules.proofs.Sound.{sound-modules}
 use Rattle.modules.proofs.Terminals.{length-terminals}
 use Rattle.module_check.specs.declared.Tests.{Tests}
 use Rattle.module_check.specs.Tests.{tests_of, combined}
-use Rattle.made.specs.declared.Made.{Made}
-use Rattle.made.specs.declared.Made.TheVariants.{Written, Sheet as Unsound, Module as Invalid, Edge, SheetBuffer}
-use Rattle.made.specs.Numbers.{number_of, length_of}
+use Rattle.made.specs.declared.ModuleRefusal.{ModuleRefusal}
+use Rattle.made.specs.declared.ModuleRefusal.TheVariants.{Sheet as Unsound, Module as Invalid, Edge, SheetBuffer}
+use Rattle.made.specs.Numbers.{module_number, number_of, length_of}
+use Rattle.refusals.proofs.Refused.{number_some}
 use Rattle.module_sheet.specs.Answer.{answer_of, answer_in, made_of, with_sheet, sheet_after, Makes}
 use Rattle.module_sheet.proofs.Accepted.{Accepted}
 use Rattle.module_sheet.proofs.Sound.{modules-sound, modules_encodable}
 
 -- the answer, from the tests of the two sides
 pub made_of_lem :
-    (l : ℕ) (top bottom : List ℕ) (room : ℕ) (t u v : Tests) (r : Made) → 1 ≤ l → l ≤ 64 → t ≡ tests_of l (modules_in top)
+    (l : ℕ) (top bottom : List ℕ) (room : ℕ) (t u v : Tests) (r : Result ℕ ModuleRefusal) → 1 ≤ l → l ≤ 64 → t ≡ tests_of l (modules_in top)
     → u ≡ tests_of l (modules_in bottom) → v ≡ combined t u → r ≡ answer_of v t.pins u.pins room → r ≡ made_of l top bottom room
 unfolding answer_in
 made_of_lem l top bottom room t u v r low high et eu ev er = er ∙ rw (ev, et, eu, le-leb 1 l low, le-leb l 64 high)
 
+-- no refusal has the number 0
+pub module_number_some : (why : ModuleRefusal) → module_number why ≡ 0 → ⊥
+module_number_some (Unsound why) e = number_some why e
+module_number_some Invalid e = omega arith
+module_number_some Edge e = omega arith
+module_number_some SheetBuffer e = omega arith
+
 -- a refusal
-kept_sheet : (r : Made) (bytes old : List ℕ) → (number_of r ≡ 0 → ⊥) → with_sheet r bytes old ≡ old
-kept_sheet (Written n) bytes old h = absurd (h refl)
-kept_sheet (Unsound why) bytes old h = refl
-kept_sheet Invalid bytes old h = refl
-kept_sheet Edge bytes old h = refl
-kept_sheet SheetBuffer bytes old h = refl
+kept_sheet : (r : Result ℕ ModuleRefusal) (bytes old : List ℕ) → (number_of r ≡ 0 → ⊥) → with_sheet r bytes old ≡ old
+kept_sheet (Ok n) bytes old h = absurd (h refl)
+kept_sheet (Err why) bytes old h = refl
 
 pub makes_none :
-    (l : ℕ) (top bottom sheet : List ℕ) (r : Made) → r ≡ made_of l top bottom (length sheet) → (number_of r ≡ 0 → ⊥)
+    (l : ℕ) (top bottom sheet : List ℕ) (r : Result ℕ ModuleRefusal) → r ≡ made_of l top bottom (length sheet) → (number_of r ≡ 0 → ⊥)
     → Makes l top bottom sheet sheet r
 unfolding sheet_after
 makes_none l top bottom sheet r e h =
     record {
       answer = e;
-      bytes = sym (ap (λ (m : Made). with_sheet m written sheet) (sym e) ∙ kept_sheet r written sheet h);
+      bytes = sym (ap (λ (m : Result ℕ ModuleRefusal). with_sheet m written sheet) (sym e) ∙ kept_sheet r written sheet h);
       reads = λ n w. absurd (h (ap number_of w));
     }
   where
@@ -68,7 +74,7 @@ length_made l top bottom =
 
 -- a sheet: the bytes of both sides are below 256, so the nets fit two bytes each
 module _
-    (l : ℕ) (top bottom sheet sheet' : List ℕ) (end : ℕ) (r : Made) (below : (i : ℕ) → get_or top i 0 < 256)
+    (l : ℕ) (top bottom sheet sheet' : List ℕ) (end : ℕ) (r : Result ℕ ModuleRefusal) (below : (i : ℕ) → get_or top i 0 < 256)
     (below' : (i : ℕ) → get_or bottom i 0 < 256) (e : r ≡ made_of l top bottom (length sheet))
     (ok : Accepted l (modules_in top) (modules_in bottom) (length sheet))
     (w : Wrote sheet 0 (sheet_bytes CP (module_sheet l (modules_in top) (modules_in bottom))) sheet' end) where
@@ -94,7 +100,7 @@ module _
       (modules-sound l (modules_in top) (modules_in bottom) ok.columns ok.counts st sb ok.named.0 ok.named.1 ft fb)
       (modules_encodable l (modules_in top) (modules_in bottom) ok.columns ok.counts st sb ok.named.0 ok.named.1 ft fb)
 
-  reads : (n : ℕ) → r ≡ Written n → read (take n sheet') ≡ sound s
+  reads : (n : ℕ) → r ≡ Ok n → read (take n sheet') ≡ sound s
   reads n h =
       let long : length (sheet_bytes CP s) ≡ n = size ∙ sym (ap length_of (sym h ∙ e ∙ ok.answer)) in
       rw after (ap read (take_at (sheet_bytes CP s) _ n long) ∙ reads_sheet)
@@ -104,6 +110,6 @@ module _
   makes_sheet =
       record {
         answer = e;
-        bytes = after ∙ ap (λ (m : Made). with_sheet m (sheet_bytes CP s) sheet) (sym ok.answer);
+        bytes = after ∙ ap (λ (m : Result ℕ ModuleRefusal). with_sheet m (sheet_bytes CP s) sheet) (sym ok.answer);
         reads = reads;
       }

@@ -1,5 +1,6 @@
 -- What a call on two sides of modules that keeps its promise returned and left.
 -- Assumes nothing.
+use Rattle.std.proofs.Common.{Result, Ok, Err}
 use Prim.Native.Nat.{ℕ, ◌≤◌, ◌<◌}
 use mathlib.Core.Path.{◌≡◌, refl, ◌∙◌, ap}
 use mathlib.Core.List.{List}
@@ -16,8 +17,8 @@ use Rattle.modules.specs.Modules.{Module, pin_count, every, is_valid, are_valid,
 use Rattle.modules.specs.Bytes.{modules_in}
 use Rattle.modules.proofs.Sound.{SoundModules, sound-modules}
 use Rattle.placements.proofs.Matches.{sheet_matches}
-use Rattle.made.specs.declared.Made.{Made}
-use Rattle.made.specs.declared.Made.TheVariants.{Written, Sheet as Unsound, Module as Invalid, Edge, SheetBuffer}
+use Rattle.made.specs.declared.ModuleRefusal.{ModuleRefusal}
+use Rattle.made.specs.declared.ModuleRefusal.TheVariants.{Sheet as Unsound, Module as Invalid, Edge, SheetBuffer}
 use Rattle.made.specs.Numbers.{number_of, length_of}
 use Rattle.module_sheet.specs.Answer.{unless, answer_of, answer_in, made_of, with_sheet, sheet_after, Makes}
 use Rattle.module_sheet.specs.Returned.{Refuses, InChannel, AllValid, Within, Counts, Named, Gives, Returned}
@@ -29,13 +30,13 @@ not-both true true h = absurd (h (refl, refl))
 not-both true false h = refl
 not-both false b h = refl
 
-fails : (t : Bool) (why next : Made) → t ≡ false → unless t why next ≡ why
+fails : (t : Bool) (why next : Result ℕ ModuleRefusal) → t ≡ false → unless t why next ≡ why
 fails t why next e = rw e
 
-holds : (t : Bool) (why next : Made) → t ≡ true → unless t why next ≡ next
+holds : (t : Bool) (why next : Result ℕ ModuleRefusal) → t ≡ true → unless t why next ≡ next
 holds t why next e = rw e
 
-module _ (l : ℕ) (top bottom sheet sheet' : List ℕ) (r : Made) (makes : Makes l top bottom sheet sheet' r) where
+module _ (l : ℕ) (top bottom sheet sheet' : List ℕ) (r : Result ℕ ModuleRefusal) (makes : Makes l top bottom sheet sheet' r) where
   abbrev tops : List Module
   tops = modules_in top
 
@@ -58,28 +59,28 @@ module _ (l : ℕ) (top bottom sheet sheet' : List ℕ) (r : Made) (makes : Make
   abbrev named : Bool
   named = every is_named tops && every is_named bottoms
 
-  abbrev from9 : Made
-  from9 = unless (leb size (length sheet)) SheetBuffer (Written size)
+  abbrev from9 : Result ℕ ModuleRefusal
+  from9 = unless (leb size (length sheet)) (Err SheetBuffer) (Ok size)
 
-  abbrev from6 : Made
-  from6 = unless named (Unsound Net) from9
+  abbrev from6 : Result ℕ ModuleRefusal
+  from6 = unless named (Err (Unsound Net)) from9
 
-  abbrev from4 : Made
-  from4 = unless few (Unsound Count) from6
+  abbrev from4 : Result ℕ ModuleRefusal
+  from4 = unless few (Err (Unsound Count)) from6
 
-  abbrev from17 : Made
-  from17 = unless within Edge from4
+  abbrev from17 : Result ℕ ModuleRefusal
+  from17 = unless within (Err Edge) from4
 
-  abbrev from16 : Made
-  from16 = unless valid Invalid from17
+  abbrev from16 : Result ℕ ModuleRefusal
+  from16 = unless valid (Err Invalid) from17
 
-  all : made_of l top bottom (length sheet) ≡ unless (leb 1 l && leb l 64) (Unsound Length) from16
+  all : made_of l top bottom (length sheet) ≡ unless (leb 1 l && leb l 64) (Err (Unsound Length)) from16
   unfolding answer_in answer_of
   all = refl
 
   -- an answer that is no sheet
   refuses :
-      (a : Made) → made_of l top bottom (length sheet) ≡ a → length_of a ≡ 0 → ((bytes old : List ℕ) → with_sheet a bytes old ≡ old)
+      (a : Result ℕ ModuleRefusal) → made_of l top bottom (length sheet) ≡ a → length_of a ≡ 0 → ((bytes old : List ℕ) → with_sheet a bytes old ≡ old)
       → Refuses (number_of a) (number_of r) (length_of r) sheet sheet'
   unfolding sheet_after
   refuses a e none kept =
@@ -92,53 +93,53 @@ module _ (l : ℕ) (top bottom sheet sheet' : List ℕ) (r : Made) (makes : Make
   channel : (InChannel l → ⊥) → Refuses 3 (number_of r) (length_of r) sheet sheet'
   channel h =
       let e = not-both (leb 1 l) (leb l 64) (λ k. h (leb-true 1 l k.0, leb-true l 64 k.1)) in
-      refuses (Unsound Length) (all ∙ fails (leb 1 l && leb l 64) _ from16 e) refl (λ b o. refl)
+      refuses (Err (Unsound Length)) (all ∙ fails (leb 1 l && leb l 64) _ from16 e) refl (λ b o. refl)
 
   module _ (inside : InChannel l) where
     to16 : made_of l top bottom (length sheet) ≡ from16
-    to16 = all ∙ holds (leb 1 l && leb l 64) (Unsound Length) from16 (rw (le-leb 1 l inside.0, le-leb l 64 inside.1))
+    to16 = all ∙ holds (leb 1 l && leb l 64) (Err (Unsound Length)) from16 (rw (le-leb 1 l inside.0, le-leb l 64 inside.1))
 
     modules : (AllValid tops bottoms → ⊥) → Refuses 16 (number_of r) (length_of r) sheet sheet'
-    modules h = refuses Invalid (to16 ∙ fails valid Invalid from17 (not-both _ _ h)) refl (λ b o. refl)
+    modules h = refuses (Err Invalid) (to16 ∙ fails valid (Err Invalid) from17 (not-both _ _ h)) refl (λ b o. refl)
 
     module _ (all_valid : AllValid tops bottoms) where
       to17 : made_of l top bottom (length sheet) ≡ from17
-      to17 = to16 ∙ holds valid Invalid from17 (rw (all_valid.0, all_valid.1))
+      to17 = to16 ∙ holds valid (Err Invalid) from17 (rw (all_valid.0, all_valid.1))
 
       edge : (Within l tops bottoms → ⊥) → Refuses 17 (number_of r) (length_of r) sheet sheet'
-      edge h = refuses Edge (to17 ∙ fails within Edge from4 (not-both _ _ h)) refl (λ b o. refl)
+      edge h = refuses (Err Edge) (to17 ∙ fails within (Err Edge) from4 (not-both _ _ h)) refl (λ b o. refl)
 
       module _ (edges : Within l tops bottoms) where
         to4 : made_of l top bottom (length sheet) ≡ from4
-        to4 = to17 ∙ holds within Edge from4 (rw (edges.0, edges.1))
+        to4 = to17 ∙ holds within (Err Edge) from4 (rw (edges.0, edges.1))
 
         count : (Counts tops bottoms → ⊥) → Refuses 4 (number_of r) (length_of r) sheet sheet'
         count h =
             let e = not-both (leb (pin_count tops) 64) (leb (pin_count bottoms) 64) (λ k. h (leb-true _ _ k.0, leb-true _ _ k.1)) in
-            refuses (Unsound Count) (to4 ∙ fails few _ from6 e) refl (λ b o. refl)
+            refuses (Err (Unsound Count)) (to4 ∙ fails few _ from6 e) refl (λ b o. refl)
 
         module _ (counts : Counts tops bottoms) where
           to6 : made_of l top bottom (length sheet) ≡ from6
           to6 = to4 ∙ holds few _ from6 (rw (le-leb (pin_count tops) 64 counts.0, le-leb (pin_count bottoms) 64 counts.1))
 
           net : (Named tops bottoms → ⊥) → Refuses 6 (number_of r) (length_of r) sheet sheet'
-          net h = refuses (Unsound Net) (to6 ∙ fails named _ from9 (not-both _ _ h)) refl (λ b o. refl)
+          net h = refuses (Err (Unsound Net)) (to6 ∙ fails named _ from9 (not-both _ _ h)) refl (λ b o. refl)
 
           module _ (names : Named tops bottoms) where
             to9 : made_of l top bottom (length sheet) ≡ from9
-            to9 = to6 ∙ holds named (Unsound Net) from9 (rw (names.0, names.1))
+            to9 = to6 ∙ holds named (Err (Unsound Net)) from9 (rw (names.0, names.1))
 
             short : length sheet < size → Refuses 9 (number_of r) (length_of r) sheet sheet'
             short h =
-                refuses SheetBuffer (to9 ∙ fails (leb size (length sheet)) SheetBuffer (Written size) (lt-leb _ _ h)) refl (λ b o. refl)
+                refuses (Err SheetBuffer) (to9 ∙ fails (leb size (length sheet)) (Err SheetBuffer) (Ok size) (lt-leb _ _ h)) refl (λ b o. refl)
 
             gives : size ≤ length sheet → Gives l tops bottoms (number_of r) (length_of r) sheet sheet'
             unfolding sheet_after
             gives h =
                 let sheet_of = sheet_bytes CP (module_sheet l tops bottoms) in
-                let e = to9 ∙ holds (leb size (length sheet)) SheetBuffer (Written size) (le-leb _ _ h) in
+                let e = to9 ∙ holds (leb size (length sheet)) (Err SheetBuffer) (Ok size) (le-leb _ _ h) in
                 let a = makes.answer ∙ e in
-                let after = makes.bytes ∙ ap (λ (m : Made). with_sheet m sheet_of sheet) e in
+                let after = makes.bytes ∙ ap (λ (m : Result ℕ ModuleRefusal). with_sheet m sheet_of sheet) e in
                 let long = length_made l tops bottoms in
                 let written = ap length_of a in
                 let reads = makes.reads size a in

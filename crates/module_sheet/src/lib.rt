@@ -12,36 +12,35 @@ ghost use Rattle.module_sheet.specs.Answer.{answer_of, Makes};
 
 use encode::put_trailer;
 use format::RECORD;
-use made::{Made, number_of};
+use made::{Made, ModuleRefusal};
 use module_check::{Tests, check_modules, combine};
 use module_records::put_modules;
 use refusals::Refusal;
+use text::Writer;
 use trailer::{Part, TRAILER, Trailer};
 
 // 16, 17, 4, 6 and 9 in turn, or the length of the sheet: of the tests of both sides and the number of pins of each.
+#[tactic(auto, unfolding(crate::specs::Answer::answer_of))]
 fn answer(all: Tests, p: usize, q: usize, room: usize) -> Made
     ensures { result ≡ answer_of all p q room }
 {
     if !all.valid {
-        return Made::Module;
+        return Err(ModuleRefusal::Module);
     }
     if !all.within {
-        return Made::Edge;
+        return Err(ModuleRefusal::Edge);
     }
-    if 64 < p {
-        return Made::Sheet(Refusal::Count);
-    }
-    if 64 < q {
-        return Made::Sheet(Refusal::Count);
+    if 64 < p || 64 < q {
+        return Err(ModuleRefusal::Sheet(Refusal::Count));
     }
     if !all.named {
-        return Made::Sheet(Refusal::Net);
+        return Err(ModuleRefusal::Sheet(Refusal::Net));
     }
     let size = RECORD * (p + q) + TRAILER;
     if room < size {
-        return Made::SheetBuffer;
+        return Err(ModuleRefusal::SheetBuffer);
     }
-    Made::Written(size)
+    Ok(size)
 }
 
 // Writes the sheet: the top section with its p records, the bottom section with its q, the trailer.
@@ -52,8 +51,9 @@ fn put_sheet(out: &mut [u8], columns: usize, top: &[u8], p: usize, bottom: &[u8]
     ensures { Wrote out.old 0
         (sheet_bytes CP (module_sheet columns (modules_in top.now) (modules_in bottom.now))) out.new result }
 {
-    let middle = put_modules(out, 0, top);
-    let end = put_modules(out, middle, bottom);
+    let mut writer = Writer { out, end: 0 };
+    put_modules(&mut writer, top);
+    put_modules(&mut writer, bottom);
     let t = Trailer {
         top: Part { at: 0, count: p },
         bottom: Part {
@@ -62,7 +62,8 @@ fn put_sheet(out: &mut [u8], columns: usize, top: &[u8], p: usize, bottom: &[u8]
         },
         columns,
     };
-    put_trailer(out, end, t, b"CP")
+    put_trailer(&mut writer, t, b"CP");
+    writer.end
 }
 
 // Turns two sides of modules into the sheet of a channel with so many columns.
@@ -70,18 +71,16 @@ pub fn make(columns: usize, top: &[u8], bottom: &[u8], sheet: &mut [u8]) -> Made
     ensures { Makes columns top.now bottom.now sheet.old sheet.new result }
 {
     if columns == 0 {
-        return Made::Sheet(Refusal::Length);
+        return Err(ModuleRefusal::Sheet(Refusal::Length));
     }
     if 64 < columns {
-        return Made::Sheet(Refusal::Length);
+        return Err(ModuleRefusal::Sheet(Refusal::Length));
     }
     let over = check_modules(top, columns);
     let under = check_modules(bottom, columns);
     let p = over.pins;
     let q = under.pins;
-    let made = answer(combine(over, under), p, q, sheet.len());
-    if number_of(made) == 0 {
-        put_sheet(sheet, columns, top, p, bottom, q);
-    }
-    made
+    let size = answer(combine(over, under), p, q, sheet.len())?;
+    put_sheet(sheet, columns, top, p, bottom, q);
+    Ok(size)
 }

@@ -1,13 +1,8 @@
 -- Laws of the nets of a sheet's terminals, one after the other.
 -- Assumes nothing.
-use Prim.Native.Nat.{ℕ, zero, suc, ◌+◌, ◌-◌, ◌≤◌, ◌<◌}
-use mathlib.Core.Path.{◌≡◌, refl, sym, ◌∙◌, ap}
-use mathlib.Core.List.{List, ◌∷◌, ◌++◌, append-nil, map-append}
-use mathlib.Core.Bool.{Bool, ◌||◌}
-use native.Mathlib.Omega.{arith}
-use native.Mathlib.Numerals.{add-one}
-use lib.ListN.{length, get_or, take, drop, set, replicate, drop_of_length-le, length-map, length-append, length-drop, get_or-map}
-use lib.Seq.{drop-cons, take-suc, take-suc-set, take_all, take_at}
+use Rattle.std.proofs.Common.{◌≡◌, ℕ, zero, suc, ◌+◌, ◌-◌, ◌<◌, ◌≤◌, Bool, ◌||◌, List, ◌∷◌, ◌++◌, length, get_or, take, drop, set, replicate, sym, refl, ap, ◌∙◌, append-nil, add-one, arith, length-append, length-drop, drop_of_length-le, take_all, drop-cons, take-suc, take-suc-set, take_at}
+use mathlib.Core.List.{map-append}
+use lib.ListN.{length-map, get_or-map}
 use Rattle.channel.specs.Sheet.{Terminal, no_terminal}
 use Rattle.channel.specs.Density.{any}
 use Rattle.channel.specs.Cut.{nets}

@@ -22,11 +22,8 @@ fn fill_nets(part: &[u8], nets: &mut [u16])
     requires { length nets.old ≡ length (terminals_in part.now) }
     ensures { nets.new ≡ nets_of (terminals_in part.now) }
 {
-    let mut i = 0;
-    while i < nets.len() {
-        let r = terminal_at(part, i);
-        nets[i] = r.net;
-        i += 1;
+    for (i, net) in nets.iter_mut().enumerate() {
+        *net = terminal_at(part, i).net;
     }
 }
 
@@ -35,10 +32,8 @@ pub fn occurs(net: u16, nets: &[u16], from: usize) -> bool
     ensures { result ≡ any (eqb net) (drop from nets.now) }
 {
     let mut found = false;
-    let mut i = from;
-    while i < nets.len() {
-        found = found | (net == nets[i]);
-        i += 1;
+    for other in &nets[from.min(nets.len())..] {
+        found |= net == *other;
     }
     found
 }

@@ -1,9 +1,6 @@
 -- Laws of the work cells over the passes: what holds of them goes by their number alone, and one pass after another.
 -- Assumes nothing.
-use Prim.Native.Nat.{ℕ}
-use mathlib.Core.Path.{◌≡◌, ◌∙◌}
-use mathlib.Core.List.{List}
-use lib.ListN.{length, drop}
+use Rattle.std.proofs.Common.{ℕ, ◌≡◌, ◌∙◌, List, length, drop}
 use Rattle.entry.specs.declared.Grid.{Grid}
 use Rattle.table.specs.Planes.{SameGaps, Filled}
 use Rattle.table.proofs.Planes.{fits_kept}
@@ -12,14 +9,12 @@ use Rattle.walk.specs.Walking.{AsksWalk}
 use Rattle.pass.specs.Pass.{AsksPass}
 
 pub lies_kept :
-    (old new rules : List ℕ) (g : Grid) (p q : ℕ) → length new ≡ length old → AsksWalk old rules g p q → AsksWalk new rules g p q
-lies_kept old new rules g p q e l =
-    record { rules = l.rules; table = fits_kept old new g p e l.table; rows = l.rows; bottoms = l.bottoms }
+    (old new : List ℕ) (g : Grid) (p q : ℕ) → length new ≡ length old → AsksWalk old g p q → AsksWalk new g p q
+lies_kept old new g p q e l = record { table = fits_kept old new g p e l.table; rows = l.rows; bottoms = l.bottoms }
 
 pub given_kept :
-    (old new rules loads : List ℕ) (n : Plan) → length new ≡ length old → AsksPass old rules loads n → AsksPass new rules loads n
-given_kept old new rules loads n e g =
-    record { sides = g.sides; lies = lies_kept old new rules _ _ _ e g.lies; bottoms = g.bottoms; columns = g.columns }
+    (old new : List ℕ) (n : Plan) → length new ≡ length old → AsksPass old n → AsksPass new n
+given_kept old new n e g = record { lies = lies_kept old new _ _ _ e g.lies; bottoms = g.bottoms; columns = g.columns }
 
 -- a fill of cells in which nothing but the table's rows was changed before
 pub filled-after :

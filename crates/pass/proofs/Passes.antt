@@ -1,14 +1,7 @@
 -- Laws of the passes: what a pass says, and why the bisection finds the least bound.
 -- Assumes nothing.
-use Prim.Native.Nat.{ℕ, suc, ◌+◌, ◌-◌, ◌≤◌, ◌<◌}
-use mathlib.Core.Path.{◌≡◌, refl, sym, ◌∙◌, ap₂}
-use mathlib.Core.List.{List}
-use mathlib.Core.Bool.{Bool, true, false, cond, ◌&&◌, true≢false}
-use mathlib.Core.Logic.{inl}
-use native.Mathlib.Omega.{arith}
-use native.Mathlib.Nat.{le_refl}
-use lib.Dec.{leb, ltb, leb-zero}
-use borrow.Author.Tests.{ltb-true, ltb-false}
+use Rattle.std.proofs.Common.{ℕ, suc, ◌+◌, ◌-◌, ◌≤◌, ◌<◌, ◌≡◌, refl, sym, ◌∙◌, ap₂, List, Bool, true, false, cond, ◌&&◌, true≢false, inl, arith, le_refl, leb, ltb, ltb-true, ltb-false}
+use lib.Dec.{leb-zero}
 use Rattle.channel.proofs.Below.{any_below_cong, any_below-none}
 use Rattle.channel.specs.Density.{most_density}
 use Rattle.bits.specs.Bits.{bit_of, in_word}

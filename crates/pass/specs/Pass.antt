@@ -1,22 +1,18 @@
 -- Whether every pin can be placed under a bound, in the table's own numbers; the least such bound, and the columns of its walk.
 -- Assumes nothing.
-use Rattle.std.specs.Prelude.{ℕ, ◌+◌, ◌-◌, ◌*◌, ◌≤◌, ◌<◌, ◌≡◌, List, Bool, true, false, ◌&&◌, length, drop, ltb}
+use Rattle.std.specs.Prelude.{ℕ, ◌+◌, ◌-◌, ◌*◌, ◌≤◌, ◌<◌, ◌≡◌, List, Option, Some, None, Bool, true, false, ◌&&◌, length, drop, ltb}
 use Rattle.channel.specs.Below.{any_below}
 use Rattle.channel.specs.Density.{most_density}
 use Rattle.bits.specs.Bits.{in_word}
 use Rattle.entry.specs.Entry.{cell}
 use Rattle.table.specs.Planes.{SameGaps, Filled}
-use Rattle.entry.specs.Asks.{AsksArrays}
 use Rattle.pass.specs.declared.Plan.{Plan}
-use Rattle.pass.specs.declared.Outcome.{Outcome}
-use Rattle.pass.specs.declared.Outcome.TheVariants as outcome
 use Rattle.walk.specs.Walk.{walk_columns}
 use Rattle.walk.specs.Walking.{AsksWalk}
 
--- what a pass is given: the rules and the loads in their arrays, the table in the work cells, and columns enough for the bottom pins
-pub record AsksPass (work rules loads : List ℕ) (n : Plan) : Type 0 where
-  pub sides : AsksArrays rules loads
-  pub lies : AsksWalk work rules n.grid n.p n.q
+-- what a pass is given: the table in the work cells, and columns enough for the bottom pins
+pub record AsksPass (work : List ℕ) (n : Plan) : Type 0 where
+  pub lies : AsksWalk work n.grid n.p n.q
   pub bottoms : n.q ≤ n.l
   pub columns : n.l ≤ 64
 
@@ -53,19 +49,19 @@ pub record Bounded (rules loads : List ℕ) (n : Plan) (old new : List ℕ) (r :
   pub gaps : SameGaps n.grid old new
 
 -- the least bound with the columns of its walk, or nothing and the columns as they were
-abbrev pub Came : List ℕ → List ℕ → Plan → List ℕ → List ℕ → List ℕ → Outcome → Type 0
-Came rules loads n new columns columns' (outcome.Least d) =
+abbrev pub Came : List ℕ → List ℕ → Plan → List ℕ → List ℕ → List ℕ → Option ℕ → Type 0
+Came rules loads n new columns columns' (Some d) =
     Least (feasible_in rules loads n) d
     × (columns'
     ≡ walk_columns new rules n.grid n.p n.q n.l (record { c = n.l; i = n.p; j = n.q; top = 0; bottom = 0 }) columns)
-Came rules loads n new columns columns' outcome.Nothing = (feasible_in rules loads n most_density ≡ false) × (columns' ≡ columns)
+Came rules loads n new columns columns' None = (feasible_in rules loads n most_density ≡ false) × (columns' ≡ columns)
 
 -- the bound of the last pass: the least one, or the most that a density can be
-abbrev pub last_bound : Outcome → ℕ
-last_bound (outcome.Least d) = d
-last_bound outcome.Nothing = most_density
+abbrev pub last_bound : Option ℕ → ℕ
+last_bound (Some d) = d
+last_bound None = most_density
 
 -- and the table of the last pass
-pub record Placed (rules loads : List ℕ) (n : Plan) (old new columns columns' : List ℕ) (r : Outcome) : Type 0 where
+pub record Placed (rules loads : List ℕ) (n : Plan) (old new columns columns' : List ℕ) (r : Option ℕ) : Type 0 where
   pub came : Came rules loads n new columns columns' r
   pub table : Filled rules loads (last_bound r) n.grid (n.p + 1) 0 (table_end n) old new

@@ -1,10 +1,11 @@
 // Passes over the table: whether all pins can be placed under a bound, and the least such bound.
 #![tactic(auto)]
 
-ghost use Rattle.std.specs.Prelude.{◌+◌, ◌*◌, ◌≤◌, ◌<◌, min, ◌≡◌, true, false, cond, length};
+ghost use Rattle.std.specs.Prelude.{◌+◌, ◌≤◌, ◌<◌, ◌≡◌, true, false, length};
 ghost use Rattle.channel.specs.Density.{most_density};
 ghost use Rattle.pass.specs.Pass.{AsksPass, feasible_in, Rising, Tried, Bounded, Placed};
 
+use arrays::{LoadTable, RuleTable};
 use bits::below;
 use bound::lower_bound;
 use entry::Grid;
@@ -23,17 +24,10 @@ pub struct Plan {
     pub l: usize,
 }
 
-// What the passes come to.
-#[derive(Clone, Copy)]
-pub enum Outcome {
-    Least(u8),
-    Nothing,
-}
-
 // Fills the table under a bound, and says whether all pins can be placed.
-fn try_bound(work: &mut [u16], rules: &[u64], loads: &[u8], plan: Plan, bound: u8) -> bool
-    requires { AsksPass work.old rules.now loads.now plan }
-    ensures { Tried rules.now loads.now plan bound work.old work.new result }
+fn try_bound(work: &mut [u16], rules: &RuleTable, loads: &LoadTable, plan: Plan, bound: u8) -> bool
+    requires { AsksPass work.old plan }
+    ensures { Tried rules.now.words loads.now.bytes plan bound work.old work.new result }
 {
     let grid = plan.grid;
     let p = plan.p;
@@ -47,15 +41,9 @@ fn try_bound(work: &mut [u16], rules: &[u64], loads: &[u8], plan: Plan, bound: u
         0,
         grid.rows - 1,
         63,
-        18446744073709551615,
+        u64::MAX,
         below(plan.l + 1 - q),
     )
-}
-
-fn pick(yes: bool, a: u8, b: u8) -> u8
-    ensures { result ≡ cond yes a b }
-{
-    if yes { a } else { b }
 }
 
 // A bound to try: so far ahead of the lowest that is left, and not past the middle of those that are left.
@@ -63,37 +51,27 @@ fn next_bound(low: u8, high: u8, ahead: u8) -> u8
     requires { low < high }
     ensures { (low ≤ result) × (result < high) }
 {
-    let half = (high - low) / 2;
-    if ahead < half {
-        low + ahead
-    } else {
-        low + half
-    }
-}
-
-// The pass after this one looks twice as far ahead.
-fn farther(ahead: u8) -> u8
-    ensures { result ≡ min (2 * ahead + 1) 127 }
-{
-    if ahead < 64 { 2 * ahead + 1 } else { 127 }
+    low + ahead.min((high - low) / 2)
 }
 
 // The least bound under which all pins can be placed, where `MOST` is such a bound and `failed` is none. It is most often close above
-// `failed`, so the passes look there first.
-fn least(work: &mut [u16], rules: &[u64], loads: &[u8], plan: Plan, failed: u8) -> u8
-    requires { AsksPass work.old rules.now loads.now plan × (feasible_in rules.now loads.now plan failed ≡ false)
-        × (feasible_in rules.now loads.now plan most_density ≡ true) × Rising (feasible_in rules.now loads.now plan) }
-    ensures { Bounded rules.now loads.now plan work.old work.new result }
+// `failed`, so the passes look there first, and each of them about twice as far ahead.
+fn least(work: &mut [u16], rules: &RuleTable, loads: &LoadTable, plan: Plan, failed: u8) -> u8
+    requires { AsksPass work.old plan × (feasible_in rules.now.words loads.now.bytes plan failed ≡ false)
+        × (feasible_in rules.now.words loads.now.bytes plan most_density ≡ true) × Rising (feasible_in rules.now.words loads.now.bytes plan) }
+    ensures { Bounded rules.now.words loads.now.bytes plan work.old work.new result }
 {
     let mut low = failed + 1;
     let mut high: u8 = MOST;
     let mut ahead: u8 = 0;
     while low < high {
-        let bound = next_bound(low, high, ahead);
-        let yes = try_bound(work, rules, loads, plan, bound);
-        high = pick(yes, bound, high);
-        low = pick(yes, low, bound + 1);
-        ahead = farther(ahead);
+        let tried = next_bound(low, high, ahead);
+        if try_bound(work, rules, loads, plan, tried) {
+            high = tried;
+        } else {
+            low = tried + 1;
+        }
+        ahead = 2 * ahead.min(63) + 1;
     }
     high
 }
@@ -101,44 +79,44 @@ fn least(work: &mut [u16], rules: &[u64], loads: &[u8], plan: Plan, failed: u8) 
 // The columns of the walk under the least bound, if there is one, where `failed` is none.
 fn place_above(
     work: &mut [u16],
-    rules: &[u64],
-    loads: &[u8],
+    rules: &RuleTable,
+    loads: &LoadTable,
     plan: Plan,
     failed: u8,
     columns: &mut [u8],
-) -> Outcome
-    requires { AsksPass work.old rules.now loads.now plan × (plan.p + plan.q ≤ length columns.old)
-        × (feasible_in rules.now loads.now plan failed ≡ false) × Rising (feasible_in rules.now loads.now plan) }
-    ensures { Placed rules.now loads.now plan
+) -> Option<u8>
+    requires { AsksPass work.old plan × (plan.p + plan.q ≤ length columns.old)
+        × (feasible_in rules.now.words loads.now.bytes plan failed ≡ false) × Rising (feasible_in rules.now.words loads.now.bytes plan) }
+    ensures { Placed rules.now.words loads.now.bytes plan
         work.old work.new columns.old columns.new result }
 {
-    if try_bound(work, rules, loads, plan, MOST) {
-        let bound = least(work, rules, loads, plan, failed);
-        fill(work, rules, loads, plan.grid, bound, plan.p);
-        walk(work, rules, plan.grid, plan.p, plan.q, plan.l, columns);
-        return Outcome::Least(bound);
+    if !try_bound(work, rules, loads, plan, MOST) {
+        return None;
     }
-    Outcome::Nothing
+    let bound = least(work, rules, loads, plan, failed);
+    fill(work, rules, loads, plan.grid, bound, plan.p);
+    walk(work, rules, plan.grid, plan.p, plan.q, plan.l, columns);
+    Some(bound)
 }
 
 // The columns of the walk under the least bound, if there is one. No bound below the first that is tried places all pins, and most
 // often that one does.
 pub fn place(
     work: &mut [u16],
-    rules: &[u64],
-    loads: &[u8],
+    rules: &RuleTable,
+    loads: &LoadTable,
     plan: Plan,
     columns: &mut [u8],
-) -> Outcome
-    requires { AsksPass work.old rules.now loads.now plan × (plan.p + plan.q ≤ length columns.old)
-        × Rising (feasible_in rules.now loads.now plan) }
-    ensures { Placed rules.now loads.now plan
+) -> Option<u8>
+    requires { AsksPass work.old plan × (plan.p + plan.q ≤ length columns.old)
+        × Rising (feasible_in rules.now.words loads.now.bytes plan) }
+    ensures { Placed rules.now.words loads.now.bytes plan
         work.old work.new columns.old columns.new result }
 {
     let bound = lower_bound(loads, plan.p, plan.q);
     if try_bound(work, rules, loads, plan, bound) {
         walk(work, rules, plan.grid, plan.p, plan.q, plan.l, columns);
-        return Outcome::Least(bound);
+        return Some(bound);
     }
     place_above(work, rules, loads, plan, bound, columns)
 }

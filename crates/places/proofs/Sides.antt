@@ -1,16 +1,10 @@
 -- The first and last place of a net on one side say which stretches of the side it stands in, or reaches by leaving.
 -- Assumes nothing.
-use Prim.Native.Nat.{ℕ, zero, suc, ◌+◌, ◌-◌, ◌≤◌, ◌<◌, min, max}
-use mathlib.Core.Path.{◌≡◌, refl, sym, ap}
-use mathlib.Core.List.{List, [], ◌∷◌}
-use mathlib.Core.Bool.{Bool, true, false, ◌&&◌, ◌||◌, or_assoc, or-false, and-true, and-false}
-use native.Mathlib.Omega.{arith}
+use Rattle.std.proofs.Common.{ℕ, zero, suc, ◌+◌, ◌-◌, ◌≤◌, ◌<◌, min, max, ◌≡◌, refl, sym, ap, List, [], ◌∷◌, Bool, true, false, ◌&&◌, ◌||◌, arith, add-one, length, get_or, take, drop, drop_of_length-le, drop-cons, leb, ltb, eqb, leb-true, leb-false, le-leb, ltb-true, ltb-false, lt-ltb, le-ltb}
+use mathlib.Core.Bool.{or_assoc, or-false, and-true, and-false}
 use native.Mathlib.Nat.{sub-zero}
-use native.Mathlib.Numerals.{add-one}
-use lib.ListN.{length, get_or, take, drop, drop_of_length-le}
-use lib.Seq.{take-nil, drop-nil, drop-cons}
-use lib.Dec.{leb, ltb, eqb}
-use borrow.Author.Tests.{leb-true, leb-false, le-leb, lt-leb, ltb-true, ltb-false, lt-ltb, le-ltb}
+use lib.Seq.{take-nil, drop-nil}
+use borrow.Author.Tests.{lt-leb}
 use Rattle.kind.specs.Kinds.{kind_of, leaves_left, leaves_right}
 use Rattle.kind.proofs.Starts.{left_start_lem, right_start_lem}
 use Rattle.channel.specs.Cut.{has, right_of}

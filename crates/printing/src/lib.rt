@@ -1,128 +1,107 @@
-// The test programs' answers, in lines of text, written to a writer.
+// The test programs' answers, as text.
 #![tactic(auto)]
 
 use format::Side;
-use refusals::Checked;
+use refusals::{ListRefusal, Reason};
+use searched::SearchRefusal;
+use std::fmt;
 use std::io::{self, Write};
-use std::num::wrapping_add_u64;
 use terminal::Record;
 
-pub fn text<W: Write>(out: &mut W, t: &[u8]) -> io::Result<()> {
-    out.write_all(t)
-}
+// The columns of a list, each behind a space.
+#[derive(Clone, Copy)]
+pub struct Columns<'a>(pub &'a [u8]);
 
-// A text and the number behind it.
-pub fn number<W: Write>(out: &mut W, t: &[u8], n: u64) -> io::Result<()> {
-    text(out, t)?;
-    write!(out, "{n}")
-}
-
-// A number as it is, and 0 for a negative one.
-fn at_least_zero(n: i16) -> u64 {
-    if 0 <= n { n as u64 } else { 0 }
-}
-
-// A text and the signed number behind it.
-pub fn signed<W: Write>(out: &mut W, t: &[u8], n: i16) -> io::Result<()> {
-    if n < 0 {
-        text(out, t)?;
-        // -n is one more than !n, which fits for every n
-        number(out, b"-", wrapping_add_u64(at_least_zero(!n), 1))
-    } else {
-        number(out, t, at_least_zero(n))
-    }
-}
-
-pub fn yes_or_no<W: Write>(out: &mut W, name: &[u8], yes: bool) -> io::Result<()> {
-    text(out, name)?;
-    if yes {
-        text(out, b"yes\n")
-    } else {
-        text(out, b"no\n")
-    }
-}
-
-// The name of a sheet, and the refusal that it earns; `sound` is for one that earns none.
-pub fn verdict<W: Write>(out: &mut W, name: &[u8], sound: &[u8], s: &[u8]) -> io::Result<()> {
-    text(out, name)?;
-    match soundness::check(s) {
-        Checked::Sound => text(out, sound)?,
-        Checked::Refused(why) => number(out, b": refused ", refusals::number_of(why) as u64)?,
-    }
-    text(out, b"\n")
-}
-
-// A place behind a list's end reads 0.
-fn byte(list: &[u8], i: usize) -> u8 {
-    if i < list.len() { list[i] } else { 0 }
-}
-
-// A text and the first n columns of a list behind it.
-pub fn columns<W: Write>(out: &mut W, t: &[u8], list: &[u8], n: usize) -> io::Result<()> {
-    text(out, t)?;
-    for k in 0..n {
-        number(out, b" ", byte(list, k) as u64)?;
-    }
-    Ok(())
-}
-
-// A text, and a refusal's number or, where that is 0, the density.
-fn density<W: Write>(out: &mut W, t: &[u8], refusal: u8, density: u64) -> io::Result<()> {
-    text(out, t)?;
-    if refusal == 0 {
-        number(out, b"density ", density)
-    } else {
-        number(out, b"refused ", refusal as u64)
-    }
-}
-
-// The same of a measurement, with the amount where it is not 0.
-pub fn measurement<W: Write>(
-    out: &mut W,
-    t: &[u8],
-    refusal: u8,
-    found: u64,
-    amount: i16,
-) -> io::Result<()> {
-    density(out, t, refusal, found)?;
-    if amount != 0 {
-        signed(out, b", amount ", amount)?;
-    }
-    Ok(())
-}
-
-// The same of a search, with the first n columns of what it found, and the line's end.
-pub fn outcome<W: Write>(
-    out: &mut W,
-    t: &[u8],
-    refusal: u8,
-    found: u64,
-    list: &[u8],
-    n: usize,
-) -> io::Result<()> {
-    density(out, t, refusal, found)?;
-    if refusal == 0 {
-        if n == 0 {
-            text(out, b", no columns")?;
-        } else {
-            columns(out, b", columns", list, n)?;
+impl fmt::Display for Columns<'_> {
+    fn fmt<W: fmt::Write>(&self, f: &mut fmt::Formatter<W>) -> fmt::Result {
+        for column in self.0 {
+            write!(f, " {column}")?;
         }
+        Ok(())
     }
-    text(out, b"\n")
 }
 
-// A terminal's side and its place there.
-pub fn place<W: Write>(out: &mut W, side: Side, place: u64) -> io::Result<()> {
-    match side {
-        Side::Top => number(out, b"T ", place),
-        Side::Bottom => number(out, b"B ", place),
+// A terminal's side, and its place there.
+#[derive(Clone, Copy)]
+pub struct Place(pub Side, pub usize);
+
+impl fmt::Display for Place {
+    fn fmt<W: fmt::Write>(&self, f: &mut fmt::Formatter<W>) -> fmt::Result {
+        write!(f, "{} {}", letter(self.0), self.1)
     }
 }
 
 // A record's numbers; the columns of its set are for the caller to write.
-pub fn record<W: Write>(out: &mut W, r: Record) -> io::Result<()> {
-    number(out, b" net ", r.net as u64)?;
-    number(out, b" least ", r.least as u64)?;
-    number(out, b" greatest ", r.greatest as u64)?;
-    text(out, b" allowed")
+#[derive(Clone, Copy)]
+pub struct Fields(pub Record);
+
+impl fmt::Display for Fields {
+    fn fmt<W: fmt::Write>(&self, f: &mut fmt::Formatter<W>) -> fmt::Result {
+        let r = self.0;
+        write!(
+            f,
+            "net {} least {} greatest {} allowed",
+            r.net, r.least, r.greatest
+        )
+    }
+}
+
+// A side's letter.
+pub fn letter(side: Side) -> char {
+    match side {
+        Side::Top => 'T',
+        Side::Bottom => 'B',
+    }
+}
+
+pub fn yes_or_no(yes: bool) -> &'static str {
+    if yes { "yes" } else { "no" }
+}
+
+// The name of a sheet, and the refusal that it earns; `sound` is for one that earns none.
+pub fn verdict<W: Write>(out: &mut W, name: &str, sound: &str, s: &[u8]) -> io::Result<()> {
+    match soundness::check(s) {
+        Ok(()) => writeln!(out, "{name}: {sound}"),
+        Err(why) => writeln!(out, "{name}: refused {}", why.number()),
+    }
+}
+
+// The density of an answer, or the number of its refusal.
+fn answer<W: Write, T: fmt::Display + Copy, E: Reason + Copy>(
+    out: &mut W,
+    answer: Result<T, E>,
+) -> io::Result<()> {
+    match answer {
+        Ok(density) => write!(out, "density {density}"),
+        Err(why) => write!(out, "refused {}", why.number()),
+    }
+}
+
+// The answer of a measurement.
+pub fn measurement<W: Write, T: fmt::Display + Copy>(
+    out: &mut W,
+    measured: Result<T, ListRefusal>,
+) -> io::Result<()> {
+    answer(out, measured)?;
+    match measured {
+        Err(ListRefusal::Distance(amount)) => write!(out, ", amount {amount}"),
+        _ => Ok(()),
+    }
+}
+
+// The answer of a search with the columns that it found, and the line's end.
+pub fn found<W: Write, T: fmt::Display + Copy>(
+    out: &mut W,
+    found: Result<T, SearchRefusal>,
+    columns: &[u8],
+) -> io::Result<()> {
+    answer(out, found)?;
+    if found.is_ok() {
+        if columns.is_empty() {
+            write!(out, ", no columns")?;
+        } else {
+            write!(out, ", columns{}", Columns(columns))?;
+        }
+    }
+    writeln!(out)
 }

@@ -4,6 +4,7 @@
 use Prim.Native.Nat.{ℕ, zero, suc, ◌+◌, ◌≤◌}
 use mathlib.Core.Path.{◌≡◌, refl, sym, ◌∙◌, ap}
 use mathlib.Core.List.{List, [], ◌∷◌, ◌++◌}
+use Rattle.std.proofs.Common.{Option, None}
 use native.Mathlib.Omega.{arith}
 use lib.ListN.{length, length-append, take}
 use Rattle.channel.specs.Sheet.{Sheet}
@@ -11,8 +12,6 @@ use Rattle.format.specs.declared.Side.TheVariants.{Top, Bottom}
 use Rattle.soundness.specs.Read.{Read, read}
 use Rattle.soundness.specs.Read.Read.{sound, refused}
 use Rattle.cursor.specs.declared.Cursor.{Cursor}
-use Rattle.cursor.specs.declared.Step.{Step}
-use Rattle.cursor.specs.declared.Step.TheVariants.{Finished}
 use Rattle.cursor.specs.declared.Visit.{Visit}
 use Rattle.cursor.specs.Visits.{visits, all_visits, step_in, step_as}
 use Rattle.cursor.proofs.Laws.{visits_of_lem, length-visits, step_of_lem}
@@ -20,12 +19,12 @@ use Rattle.reader.specs.Reader.{step_at, passed_after}
 use Rattle.reader.specs.Steps.{place_after, step_number, visit_in, terminals_by, Reads}
 
 -- what a list has after p of it, with the cursor past that
-abbrev after : List Visit → ℕ → Step
+abbrev after : List Visit → ℕ → Option (Visit × Cursor)
 after vs p = step_in vs p (record { passed = p + 1 })
 
 -- the place after a step is one further where it found a terminal
 place-next : (vs : List Visit) (k p : ℕ)
-    → (let s : Step = step_in vs k (record { passed = p + 1 }) in passed_after s p ≡ p + length (visit_in s))
+    → (let s : Option (Visit × Cursor) = step_in vs k (record { passed = p + 1 }) in passed_after s p ≡ p + length (visit_in s))
 place-next [] k p = omega arith
 place-next (v ∷ vs) zero p = refl
 place-next (v ∷ vs) (suc k) p = place-next vs k p
@@ -38,7 +37,7 @@ take_next (v ∷ vs) zero c = refl
 take_next (v ∷ vs) (suc n) c = ap (v ∷◌) (take_next vs n c)
 
 -- past a list a step finds the end
-past_end : (vs : List Visit) (n : ℕ) (c : Cursor) → length vs ≤ n → step_in vs (length (take n vs)) c ≡ Finished
+past_end : (vs : List Visit) (n : ℕ) (c : Cursor) → length vs ≤ n → step_in vs (length (take n vs)) c ≡ None
 past_end (v ∷ vs) zero c h = elim h [ ]
 past_end [] n c h = refl
 past_end (v ∷ vs) (suc n) c h = past_end vs n c (omega arith)
@@ -62,7 +61,7 @@ module _ (b : List ℕ) (vs : List Visit) (has : (p : ℕ) → step_at b p ≡ a
             ∙ ap length next,
       )
 
-  finishes : (n : ℕ) → length vs ≤ n → step_number b n ≡ Finished
+  finishes : (n : ℕ) → length vs ≤ n → step_number b n ≡ None
   finishes n h = number n (first n).1 ∙ past_end vs n _ h
 
 length-all : (s : Sheet) → length (all_visits s) ≡ length s.top + length s.bottom

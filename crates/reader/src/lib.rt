@@ -1,11 +1,10 @@
-// A reader of a sheet: it holds the sheet, and steps through its terminals, top then bottom. The functions over a reader are thin:
-// `step_at` and `passed_after` do the work.
+// A reader of a sheet: it holds the sheet, and steps through its terminals, top then bottom.
 #![tactic(auto)]
 
 ghost use Rattle.std.specs.Prelude.{◌≡◌};
-ghost use Rattle.reader.specs.Reader.{step_at, passed_after, Stepped};
+ghost use Rattle.reader.specs.Reader.{step_at};
 
-use cursor::{Cursor, Step};
+use cursor::{Cursor, Visit};
 
 // A sheet, and how many of its terminals have been passed.
 #[derive(Clone, Copy)]
@@ -14,51 +13,44 @@ pub struct Reader<'a> {
     pub passed: usize,
 }
 
-// What a sheet has after so many terminals: the next one, or the end.
-fn step_at(sheet: &[u8], passed: usize) -> Step
+// What a sheet has after so many terminals: the next one with the cursor past it, or nothing at the end.
+pub fn read_at(sheet: &[u8], passed: usize) -> Option<(Visit, Cursor)>
     ensures { result ≡ step_at sheet.now passed }
 {
     Cursor { passed }.step(sheet)
 }
 
-// How many terminals have been passed after a step. At the end the number stays.
-fn passed_after(step: Step, passed: usize) -> usize
-    ensures { result ≡ passed_after step passed }
-{
-    match step {
-        Step::Terminal(_, past) => past.passed,
-        Step::Finished => passed,
+impl<'a> Reader<'a> {
+    // The reader before the first terminal.
+    pub fn new(sheet: &'a [u8]) -> Self
+        ensures sheet { result.sheet ≡ sheet.entry }
+        ensures start { result.passed ≡ 0 }
+    {
+        Reader { sheet, passed: 0 }
+    }
+
+    // What the next step finds.
+    pub fn peek(self) -> Option<(Visit, Cursor)>
+        ensures { result ≡ step_at self.entry.sheet.now self.entry.passed }
+    {
+        read_at(self.sheet, self.passed)
     }
 }
 
-// The reader before the first terminal.
-pub fn new<'a>(sheet: &'a [u8]) -> Reader<'a>
-    ensures { (result.sheet ≡ sheet.entry) × (result.passed ≡ 0) }
-{
-    Reader { sheet, passed: 0 }
-}
+// A step: the next terminal, which is passed, or the end, at which the reader stays.
+impl<'a> Iterator for Reader<'a> {
+    ghost use Rattle.reader.specs.Reader.{Stepped, terminals_left};
 
-// What the next step finds.
-pub fn peek<'a>(r: Reader<'a>) -> Step
-    ensures { result ≡ step_at r.entry.sheet.now r.entry.passed }
-{
-    step_at(r.sheet, r.passed)
-}
+    type Item = Visit;
 
-// A step: the next terminal, which is passed, or the end.
-pub fn next<'s, 'a>(r: &'s mut Reader<'a>) -> Step
-    ensures { Stepped r.old r.new result }
-{
-    let sheet = r.sheet;
-    let passed = r.passed;
-    let step = step_at(sheet, passed);
-    r.passed = passed_after(step, passed);
-    step
-}
+    ghost next_gives = { Stepped };
 
-// Terminal number k of a sheet, from 0, or the end.
-pub fn read_at(sheet: &[u8], k: usize) -> Step
-    ensures { result ≡ step_at sheet.now k }
-{
-    peek(Reader { sheet, passed: k })
+    ghost remaining = { terminals_left };
+
+    #[tactic(auto, using(cursor::proofs::Laws::step_found))]
+    fn next(&mut self) -> Option<Visit> {
+        let (visit, past) = self.peek()?;
+        self.passed = past.passed;
+        Some(visit)
+    }
 }

@@ -1,25 +1,26 @@
 // Walks sheets by a reader, from the first step to two steps past the end, and prints what each step finds.
 #![tactic(auto)]
 
+use reader::Reader;
 use std::io::{self, Write};
 
 mod show;
 
 // A new reader, and as many steps of it as `steps` says.
 fn read<W: Write>(out: &mut W, s: &[u8], steps: usize) -> io::Result<()> {
-    let mut reader = reader::new(s);
+    let mut reader = Reader::new(s);
     for _ in 0..steps {
-        show::step(out, reader::next(&mut reader))?;
+        show::step(out, reader.next())?;
     }
     Ok(())
 }
 
 // A sheet: whether it is sound, its steps, and terminal number 1, from 0, by the call with plain parameters.
-fn walk<W: Write>(out: &mut W, name: &[u8], s: &[u8], steps: usize) -> io::Result<()> {
-    printing::verdict(out, name, b": sound", s)?;
+fn walk<W: Write>(out: &mut W, name: &str, s: &[u8], steps: usize) -> io::Result<()> {
+    printing::verdict(out, name, "sound", s)?;
     read(out, s, steps)?;
-    printing::text(out, b"  number 1:")?;
-    show::step(out, reader::read_at(s, 1))
+    write!(out, "  number 1:")?;
+    show::step(out, reader::read_at(s, 1).map(|(visit, _)| visit))
 }
 
 fn main(rt: HostRuntime) -> io::Result<()> {
@@ -27,7 +28,7 @@ fn main(rt: HostRuntime) -> io::Result<()> {
     // two terminals a side
     walk(
         &mut out,
-        b"sheet A",
+        "sheet A",
         b"\x01\x00\x00\x00\x07\x00\x00\x00\x00\x00\x00\x00\
           \x02\x00\x01\xff\x07\x00\x00\x00\x00\x00\x00\x00\
           \x02\x00\x00\x00\x07\x00\x00\x00\x00\x00\x00\x00\
@@ -38,7 +39,7 @@ fn main(rt: HostRuntime) -> io::Result<()> {
     // the file has B 1, T 1, T 2; the walk goes T 1, T 2, B 1
     walk(
         &mut out,
-        b"bottom section first",
+        "bottom section first",
         b"\x09\x00\x00\x00\x01\x00\x00\x00\x00\x00\x00\x80\
           \x07\x00\x00\x00\x06\x00\x00\x00\x00\x00\x00\x00\
           \x2c\x01\x02\x04\x00\x01\x00\x00\x00\x00\x00\x00\
@@ -48,7 +49,7 @@ fn main(rt: HostRuntime) -> io::Result<()> {
     // one bottom terminal, with the empty set
     walk(
         &mut out,
-        b"no top terminals",
+        "no top terminals",
         b"\x05\x00\x00\x00\x00\x00\x00\x00\x00\x00\x00\x00\
           \x00\x00\x00\x00\x00\x00\x01\x00\x01\x00CP",
         3,
@@ -56,7 +57,7 @@ fn main(rt: HostRuntime) -> io::Result<()> {
     // only the last terminal breaks a rule
     walk(
         &mut out,
-        b"sheet A with column 4 in its last set",
+        "sheet A with column 4 in its last set",
         b"\x01\x00\x00\x00\x07\x00\x00\x00\x00\x00\x00\x00\
           \x02\x00\x01\xff\x07\x00\x00\x00\x00\x00\x00\x00\
           \x02\x00\x00\x00\x07\x00\x00\x00\x00\x00\x00\x00\

@@ -1,36 +1,35 @@
 // What a step finds, in a line of text.
-use cursor::{Step, Visit};
-use printing::{number, text};
+use cursor::Visit;
+use printing::{Fields, Place};
 use std::io::{self, Write};
 
-pub fn step<W: Write>(out: &mut W, found: Step) -> io::Result<()> {
+pub fn step<W: Write>(out: &mut W, found: Option<Visit>) -> io::Result<()> {
     match found {
-        Step::Terminal(v, _) => visit(out, v),
-        Step::Finished => text(out, b"  finished\n"),
+        Some(visit) => show(out, visit),
+        None => writeln!(out, "  finished"),
     }
 }
 
-fn visit<W: Write>(out: &mut W, v: Visit) -> io::Result<()> {
-    text(out, b"  ")?;
-    let side = v.side;
-    printing::place(out, side, v.place as u64)?;
-    let terminal = v.terminal;
-    printing::record(out, terminal)?;
-    columns(out, terminal.allowed)?;
-    text(out, b"\n")
+fn show<W: Write>(out: &mut W, visit: Visit) -> io::Result<()> {
+    write!(
+        out,
+        "  {} {}",
+        Place(visit.side, visit.place),
+        Fields(visit.terminal)
+    )?;
+    columns(out, visit.terminal.allowed)?;
+    writeln!(out)
 }
 
 // The columns of a set.
 fn columns<W: Write>(out: &mut W, set: u64) -> io::Result<()> {
     if set == 0 {
-        text(out, b" none")?;
+        write!(out, " none")?;
     }
-    let mut rest = set;
-    for c in 1..=64 {
-        if rest % 2 == 1 {
-            number(out, b" ", c)?;
+    for k in 0..64u64 {
+        if set >> k & 1 == 1 {
+            write!(out, " {}", k + 1)?;
         }
-        rest = rest / 2;
     }
     Ok(())
 }

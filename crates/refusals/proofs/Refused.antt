@@ -1,24 +1,19 @@
 -- Laws of the first refusal that applies, and of the refusals' numbers.
 -- Assumes nothing.
-use Prim.Native.Nat.{ℕ}
-use mathlib.Core.Path.{◌≡◌, refl}
-use mathlib.Core.Bool.{Bool, true, false}
-use native.Mathlib.Omega.{arith}
+use Rattle.std.proofs.Common.{ℕ, ◌≡◌, refl, Bool, true, false, arith, Result, Ok, Err}
 use Rattle.refusals.specs.declared.Refusal.{Refusal}
 use Rattle.refusals.specs.declared.Refusal.TheVariants.{Short, Mark, Length, Count, Layout, Net, Distance, Beyond}
-use Rattle.refusals.specs.declared.Checked.{Checked}
-use Rattle.refusals.specs.declared.Checked.TheVariants.{Sound, Refused}
 use Rattle.refusals.specs.declared.ListRefusal.{ListRefusal}
 use Rattle.refusals.specs.declared.ListRefusal.TheVariants as list
 use Rattle.refusals.specs.Refusals.{number_of, refuse, ◌or_else◌}
 use Rattle.refusals.specs.Lists.{list_number}
 
 -- where nothing is refused, neither of two checks refuses
-pub or_else_sound : (a b : Checked) → (a or_else b) ≡ Sound → (a ≡ Sound) × (b ≡ Sound)
-or_else_sound Sound b h = (refl, h)
-or_else_sound (Refused why) b h = let z : ◌≡◌ {A = ℕ} 0 1 = cc in absurd (omega arith)
+pub or_else_sound : (a b : Result Unit Refusal) → (a or_else b) ≡ Ok tt → (a ≡ Ok tt) × (b ≡ Ok tt)
+or_else_sound (Ok tt) b h = (refl, h)
+or_else_sound (Err why) b h = let z : ◌≡◌ {A = ℕ} 0 1 = cc in absurd (omega arith)
 
-pub refuse-sound : (t : Bool) (why : Refusal) → refuse t why ≡ Sound → t ≡ false
+pub refuse-sound : (t : Bool) (why : Refusal) → refuse t why ≡ Ok tt → t ≡ false
 refuse-sound true why h = let z : ◌≡◌ {A = ℕ} 0 1 = cc in absurd (omega arith)
 refuse-sound false why h = refl
 

@@ -1,2 +1,3 @@
 pub mod Refusals
 pub mod Lists
+pub mod Answers

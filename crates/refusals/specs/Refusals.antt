@@ -1,10 +1,8 @@
 -- The number of each refusal of a sheet, and the first that applies (document 01, "The refusal list").
 -- Assumes nothing.
-use Rattle.std.specs.Prelude.{ℕ, Bool, true, false}
+use Rattle.std.specs.Prelude.{ℕ, Bool, true, false, Result, Ok, Err}
 use Rattle.refusals.specs.declared.Refusal.{Refusal}
 use Rattle.refusals.specs.declared.Refusal.TheVariants.{Short, Mark, Length, Count, Layout, Net, Distance, Beyond}
-use Rattle.refusals.specs.declared.Checked.{Checked}
-use Rattle.refusals.specs.declared.Checked.TheVariants.{Sound, Refused}
 
 abbrev pub number_of : Refusal → ℕ
 number_of Short = 1
@@ -16,13 +14,13 @@ number_of Net = 6
 number_of Distance = 7
 number_of Beyond = 8
 
--- refused for this reason when the test holds
-abbrev pub refuse : Bool → Refusal → Checked
-refuse true why = Refused why
-refuse false why = Sound
+-- a check's answer: `Ok` where the sheet is sound; refused for this reason when the test holds
+abbrev pub refuse : Bool → Refusal → Result Unit Refusal
+refuse true why = Err why
+refuse false why = Ok tt
 
 -- the first refusal of the two
 infixr 20 ◌or_else◌
-abbrev pub ◌or_else◌ : Checked → Checked → Checked
-Sound or_else next = next
-Refused why or_else next = Refused why
+abbrev pub ◌or_else◌ : Result Unit Refusal → Result Unit Refusal → Result Unit Refusal
+Ok sound or_else next = next
+Err why or_else next = Err why

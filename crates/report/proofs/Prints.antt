@@ -1,22 +1,21 @@
 -- Why the text is the one to print: a search that found an assignment found the best one, and the columns are its columns.
 -- Assumes nothing.
+use Rattle.std.proofs.Common.{Result, Ok, Err}
 use Prim.Native.Nat.{ℕ, ◌+◌, ◌≤◌, ◌<◌}
-use mathlib.Core.Path.{◌≡◌, refl, sym, ◌∙◌, ap}
+use mathlib.Core.Path.{◌≡◌, sym, ◌∙◌, ap}
 use mathlib.Core.List.{List, ◌++◌}
 use native.Mathlib.Omega.{arith}
 use native.Mathlib.Nat.{zero-add}
-use lib.ListN.{length, take, drop, length-append}
+use lib.ListN.{length, take, drop}
 use lib.Seq.{sets-eq}
 use borrow.Author.Tests.{lt-ltb, le-ltb}
-use Rattle.channel.specs.Sheet.{Sheet}
 use Rattle.soundness.specs.Read.{sheet_of}
 use Rattle.sheet.specs.Parts.{shape_of}
 use Rattle.sheet.proofs.Laws.{shape-read}
-use Rattle.searched.specs.declared.Searched.{Searched}
-use Rattle.searched.specs.declared.Searched.TheVariants as searched
-use Rattle.searched.specs.Numbers.{number_of, density_of}
+use Rattle.searched.specs.declared.SearchRefusal.{SearchRefusal}
+use Rattle.searched.specs.Numbers.{search_number}
 use Rattle.search.specs.Answer.{Searches}
-use Rattle.search.proofs.Found.{columns-found, Finds, finds, zero_found}
+use Rattle.search.proofs.Found.{columns-found, Finds, finds}
 use Rattle.text.specs.Writing.{Wrote}
 use Rattle.lines.specs.Text.{lines}
 use Rattle.report.specs.Printed.{refusal, headed, result, answered, search_text, printed, Prints}
@@ -43,45 +42,28 @@ pub too_long : (input : List ℕ) → 1548 < length input → refusal 15 ≡ pri
 unfolding printed
 too_long input h = rw (lt-ltb _ _ h)
 
--- an answer with another number than 0 has the text of a refusal
-other_refused : (r : Searched) (s : Sheet) → (number_of r ≡ 0 → ⊥) → refusal (number_of r) ≡ answered r s
-other_refused (searched.Found d) s h = absurd (h refl)
-other_refused (searched.Sheet why) s h = refl
-other_refused searched.Columns s h = refl
-other_refused searched.Cells s h = refl
-other_refused searched.NoAssignment s h = refl
-
 -- the text of the answer of a search with so many column bytes and work cells
-module _ (input buffer work buffer' work' : List ℕ) (r : Searched) (searches : Searches input buffer work buffer' work' r)
+module _ (input buffer work buffer' work' : List ℕ) (r : Result ℕ SearchRefusal) (searches : Searches input buffer work buffer' work' r)
     (columns : length buffer ≡ 128) (cells : length work ≡ 30000) (short : length input ≤ 1548)
   where
     answer-text : answered r (sheet_of input) ≡ printed input
     unfolding printed search_text
     answer-text =
-        rw (le-ltb _ _ short, ← columns, ← cells) (ap (λ (k : Searched). answered k (sheet_of input)) searches.answer)
+        rw (le-ltb _ _ short, ← columns, ← cells) (ap (λ (k : Result ℕ SearchRefusal). answered k (sheet_of input)) searches.answer)
 
-    module _ (n : ℕ) (number : n ≡ number_of r) where
-      pub refused-text : (n ≡ 0 → ⊥) → refusal n ≡ printed input
-      refused-text h = ap refusal number ∙ other_refused r (sheet_of input) (rw number at h) ∙ answer-text
+    pub refused_text : (why : SearchRefusal) → r ≡ Err why → refusal (search_number why) ≡ printed input
+    refused_text why is = ap (λ (k : Result ℕ SearchRefusal). answered k (sheet_of input)) (sym is) ∙ answer-text
 
-      module _ (d : ℕ) (density : d ≡ density_of r) (none : n ≡ 0) where
-        is_found : r ≡ searched.Found d
-        is_found = zero_found r (sym number ∙ none) ∙ ap searched.Found (sym density)
+    module _ (d : ℕ) (is : r ≡ Ok d) where
+      found-best : Finds input (length buffer) (length work) d
+      found-best = finds input (length buffer) (length work) d (sym searches.answer ∙ is)
 
-        found-best : Finds input (length buffer) (length work) d
-        found-best = finds input (length buffer) (length work) d (sym searches.answer ∙ is_found)
+      pub found_pins : (shape_of input).pins ≤ 128
+      found_pins = rw (shape-read input (sheet_of input) found-best.long.reads, ← columns) found-best.long.pins
 
-        pub found-pins : (shape_of input).pins ≤ 128
-        found-pins = rw (shape-read input (sheet_of input) found-best.long.reads, ← columns) found-best.long.pins
-
-        pub found-text : headed d (lines (visits_of input) (take (shape_of input).pins buffer')) ≡ printed input
-        unfolding visits_of
-        found-text =
-            let f = found-best in
-            rw (shape-read input (sheet_of input) f.long.reads, f.long.reads, columns-found searches f.long f.best)
-            (ap (result (sheet_of input)) (sym f.best) ∙ ap (λ (k : Searched). answered k (sheet_of input)) (sym is_found) ∙ answer-text)
-
--- the text lies within the buffer
-pub text-fits : {input old new : List ℕ} {n : ℕ} → Prints input old new n → n ≤ length new
-text-fits {input} {old} p =
-    rw (p.text, length-append (printed input) (drop (length (printed input)) old), p.size) (omega arith)
+      pub found_text : headed d (lines (visits_of input) (take (shape_of input).pins buffer')) ≡ printed input
+      unfolding visits_of
+      found_text =
+          let f = found-best in
+          rw (shape-read input (sheet_of input) f.long.reads, f.long.reads, columns-found searches f.long f.best)
+          (ap (result (sheet_of input)) (sym f.best) ∙ ap (λ (k : Result ℕ SearchRefusal). answered k (sheet_of input)) (sym is) ∙ answer-text)

@@ -1,5 +1,6 @@
 -- The lines of a sheet: none of a refused one, and of a sound one those of its two sides, one behind the other.
 -- Assumes nothing.
+use Rattle.std.proofs.Common.{Ok, Err}
 use Prim.Native.Nat.{ℕ, ◌+◌, ◌-◌, ◌≤◌}
 use mathlib.Core.Path.{◌≡◌, refl, sym, ◌∙◌, ap}
 use mathlib.Core.List.{List, [], ◌++◌}
@@ -13,7 +14,6 @@ use Rattle.soundness.specs.Read.{Read, sheet_of, read}
 use Rattle.soundness.specs.Read.Read.{sound, refused}
 use Rattle.soundness.proofs.Laws.{read_checked}
 use Rattle.sheet.specs.declared.Layout.{Layout}
-use Rattle.sheet.specs.declared.Opened.TheVariants as opened
 use Rattle.sheet.specs.declared.Shape.{Shape}
 use Rattle.format.specs.Parts.{bytes_of, terminals_in}
 use Rattle.sheet.specs.Parts.{shape_of, opened_of}
@@ -25,7 +25,7 @@ use Rattle.lines.proofs.Laws.{lines-append}
 use Rattle.report.specs.Writing.{visits_as, visits_of}
 
 -- a sheet that is refused has no lines
-pub refused-lines : (b : List ℕ) (why : Refusal) (cs : List ℕ) → opened_of b ≡ opened.Refused why → [] ≡ lines (visits_of b) cs
+pub refused-lines : (b : List ℕ) (why : Refusal) (cs : List ℕ) → opened_of b ≡ Err why → [] ≡ lines (visits_of b) cs
 unfolding visits_of
 refused-lines b why cs e = by_read (read b) refl
   where
@@ -38,13 +38,13 @@ refused-lines b why cs e = by_read (read b) refl
     by_read (refused k) q = refl
 
 -- a sheet that opened has its layout's shape
-pub opened_shape : (b : List ℕ) (layout : Layout) → opened_of b ≡ opened.Sound layout → layout.shape ≡ shape_of b
+pub opened_shape : (b : List ℕ) (layout : Layout) → opened_of b ≡ Ok layout → layout.shape ≡ shape_of b
 opened_shape b layout opening =
     let laws = opens b layout opening in
     laws.shape ∙ sym (shape-read b (sheet_of b) laws.reads)
 
 -- and the lines of its two parts
-module _ (b : List ℕ) (layout : Layout) (opening : opened_of b ≡ opened.Sound layout) (columns : List ℕ)
+module _ (b : List ℕ) (layout : Layout) (opening : opened_of b ≡ Ok layout) (columns : List ℕ)
     (enough : layout.shape.pins ≤ length columns)
   where
     abbrev n : Shape

@@ -1,14 +1,13 @@
 -- What the program prints of its input (document 01, "The program" and "The refusal list").
 -- Assumes nothing.
-use Rattle.std.specs.Prelude.{ℕ, ◌≡◌, List, [], ◌∷◌, ◌++◌, cond, length, drop, ltb}
+use Rattle.std.specs.Prelude.{ℕ, ◌≡◌, List, [], ◌∷◌, ◌++◌, cond, length, drop, ltb, Result, Ok, Err}
 use Rattle.channel.specs.Sheet.{Sheet}
 use Rattle.channel.specs.Best.{Found, best}
 use Rattle.channel.specs.Best.Found.{none, found}
 use Rattle.soundness.specs.Read.{sheet_of}
 use Rattle.cursor.specs.Visits.{all_visits}
-use Rattle.searched.specs.declared.Searched.{Searched}
-use Rattle.searched.specs.declared.Searched.TheVariants as searched
-use Rattle.searched.specs.Numbers.{number_of}
+use Rattle.searched.specs.declared.SearchRefusal.{SearchRefusal}
+use Rattle.searched.specs.Numbers.{search_number}
 use Rattle.search.specs.Answer.{searched_of}
 use Rattle.lines.specs.Text.{field, newline, lines}
 
@@ -32,12 +31,9 @@ result s none = refusal 11
 result s (found d cs) = headed d (lines (all_visits s) cs)
 
 -- the text of a search's answer
-abbrev pub answered : Searched → Sheet → List ℕ
-answered (searched.Found d) s = result s (best s)
-answered (searched.Sheet why) s = refusal (number_of (searched.Sheet why))
-answered searched.Columns s = refusal (number_of searched.Columns)
-answered searched.Cells s = refusal (number_of searched.Cells)
-answered searched.NoAssignment s = refusal (number_of searched.NoAssignment)
+abbrev pub answered : Result ℕ SearchRefusal → Sheet → List ℕ
+answered (Ok d) s = result s (best s)
+answered (Err why) s = refusal (search_number why)
 
 -- "lends 30,000 work cells", and a column byte for each of at most 128 terminals
 unfoldable pub search_text : List ℕ → List ℕ

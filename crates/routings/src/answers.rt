@@ -1,130 +1,74 @@
 // What is to be answered to a case and what the library answers, in one form.
+ghost use Rattle.std.specs.Prelude.{◌≤◌, length};
+
 use crate::trials::Case;
-use buffers::first_columns;
-use enumeration::{ROOM, Routing, Span, Spans};
-use fixtures::{Page, front};
-use measured::Measured;
-use printing::number;
+use arrayvec::ArrayVec;
+use enumeration::{NoTracks, ROOM, Routing, Span, Spans};
 use std::io::{self, Write};
-use tracked::Routed;
+use tracked::TrackRefusal;
 
-fn measure_case(case: Case, page: &Page) -> Measured {
-    let lent = case.lent;
-    let list = case.list;
-    measure::measure(front(page, lent.size), first_columns(&list, lent.columns))
-}
-
-fn route_case(case: Case, page: &Page) -> Routed {
-    let lent = case.lent;
-    let list = case.list;
-    tracks::route(
-        front(page, lent.size),
-        first_columns(&list, lent.columns),
-        case.room,
-    )
-}
+pub type Answer = Result<Routing, TrackRefusal>;
 
 // What is to be answered: the measurement's refusal, or what the rule says.
-pub fn expected(case: Case, page: &Page) -> Routing {
-    let answer = measure_case(case, page);
-    let refusal = measured::number_of(answer);
-    if refusal != 0 {
-        return enumeration::no_routing(refusal, measured::amount_of(answer));
-    }
-    let sheet = case.sheet;
-    let list = case.list;
-    enumeration::route(sheet, list, case.room)
+pub fn expected(case: &Case) -> Answer {
+    measure::measure(case.lent.sheet, case.lent.columns)?;
+    enumeration::route(case.sheet, case.list, case.room).map_err(|why| match why {
+        NoTracks::TwoNets => TrackRefusal::TwoNets,
+        NoTracks::Room => TrackRefusal::SpanBuffer,
+    })
 }
 
 // What the library answers.
-pub fn given(case: Case, page: &Page) -> Routing {
-    let routed = route_case(case, page);
-    let answer = routed.answer;
-    let nets = tracked::count_of(answer);
-    Routing {
-        number: tracked::number_of(answer),
-        amount: tracked::amount_of(answer),
-        nets,
-        tracks: tracked::tracks_of(answer),
-        spans: first_spans(routed, nets),
-    }
+pub fn given(case: &Case) -> Answer {
+    let routed = tracks::route(case.lent.sheet, case.lent.columns, case.room)?;
+    Ok(Routing {
+        tracks: routed.counts.tracks,
+        spans: first_spans(&routed.spans, routed.counts.nets),
+    })
 }
 
 // The first n spans that the library gives. What stands behind the spans of an answer is not looked at.
-fn first_spans(routed: Routed, n: usize) -> Spans {
-    let all = routed.spans;
-    let mut spans = enumeration::no_spans();
-    let mut k = 0;
-    while k < ROOM {
-        if k < n {
-            let span = all[k];
-            spans[k] = Span {
-                net: span.net,
-                left: span.left,
-                right: span.right,
-                track: span.track,
-            };
-        }
-        k += 1;
+fn first_spans(all: &[left_edge::Span; 128], n: usize) -> Spans {
+    let mut spans = ArrayVec::new();
+    for span in &all[..n.min(ROOM)] {
+        spans.push(Span {
+            net: span.net,
+            left: span.left,
+            right: span.right,
+            track: span.track,
+        });
     }
     spans
 }
 
 // Whether the tracks are as many as the density, by the program's own count; a refusal has neither.
-pub fn dense(case: Case, routing: Routing) -> bool {
-    let sheet = case.sheet;
-    let list = case.list;
-    routing.number != 0 || routing.tracks == enumeration::density(sheet, list) as u16
-}
-
-pub fn differ(a: Routing, b: Routing) -> bool {
-    if a.number != b.number || a.amount != b.amount {
-        return true;
+pub fn is_dense(case: &Case, answer: &Answer) -> bool {
+    match answer {
+        Ok(routing) => routing.tracks as usize == enumeration::density(case.sheet, case.list),
+        Err(_) => true,
     }
-    if a.nets != b.nets || a.tracks != b.tracks {
-        return true;
+}
+
+pub fn show<W: Write>(out: &mut W, answer: &Answer) -> io::Result<()> {
+    match answer {
+        Ok(routing) => show_routing(out, routing),
+        Err(why) => write!(out, "refused {why:?}"),
     }
-    let a_spans = a.spans;
-    let b_spans = b.spans;
-    spans_differ(a_spans, b_spans)
 }
 
-fn spans_differ(a: Spans, b: Spans) -> bool {
-    let mut k = 0;
-    while k < ROOM {
-        if span_differs(a[k], b[k]) {
-            return true;
-        }
-        k += 1;
-    }
-    false
-}
-
-fn span_differs(a: Span, b: Span) -> bool {
-    a.net != b.net || a.left != b.left || a.right != b.right || a.track != b.track
-}
-
-pub fn show<W: Write>(out: &mut W, t: &[u8], routing: Routing) -> io::Result<()> {
-    number(out, t, routing.number as u64)?;
-    printing::signed(out, b", amount ", routing.amount)?;
-    number(out, b", nets ", routing.nets as u64)?;
-    number(out, b", tracks ", routing.tracks as u64)?;
-    let spans = routing.spans;
-    show_spans(out, spans, routing.nets)
-}
-
-fn show_spans<W: Write>(out: &mut W, spans: Spans, nets: usize) -> io::Result<()> {
-    for k in 0..ROOM {
-        if k < nets {
-            show_span(out, spans[k])?;
-        }
+fn show_routing<W: Write>(out: &mut W, routing: &Routing) -> io::Result<()> {
+    write!(
+        out,
+        "nets {}, tracks {}",
+        routing.spans.len(),
+        routing.tracks
+    )?;
+    for span in routing.spans.as_slice() {
+        write!(
+            out,
+            ", net {} from {} to {} on track {}",
+            span.net, span.left, span.right, span.track
+        )?;
     }
     Ok(())
-}
-
-fn show_span<W: Write>(out: &mut W, span: Span) -> io::Result<()> {
-    number(out, b", net ", span.net as u64)?;
-    number(out, b" from ", span.left as u64)?;
-    number(out, b" to ", span.right as u64)?;
-    number(out, b" on track ", span.track as u64)
 }

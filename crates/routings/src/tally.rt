@@ -1,10 +1,11 @@
 // What occurs among the routings: without it, that none differs would say little.
-use enumeration::{ROOM, Routing, Span, leaves};
-use std::num::wrapping_add_u64;
+use crate::answers::Answer;
+use enumeration::{Routing, leaves};
+use tracked::TrackRefusal;
 
 // All routings: those with tracks, refused with 18, with 9 and as a measurement is, and those that differ. Of the spans: how many there
 // are, those on track 0 and those of nets that leave the channel. The most tracks of a routing.
-#[derive(Clone, Copy)]
+#[derive(Clone, Copy, Debug, Default, PartialEq, Eq)]
 pub struct Tally {
     pub routings: u64,
     pub routed: u64,
@@ -14,65 +15,35 @@ pub struct Tally {
     pub spans: u64,
     pub trackless: u64,
     pub leaving: u64,
-    pub most: u64,
+    pub most: u16,
     pub wrong: u64,
 }
 
-pub fn nothing() -> Tally {
-    Tally {
-        routings: 0,
-        routed: 0,
-        two_nets: 0,
-        no_room: 0,
-        refused: 0,
-        spans: 0,
-        trackless: 0,
-        leaving: 0,
-        most: 0,
-        wrong: 0,
-    }
+// One more where it is so; a sum that wraps asks for no bound.
+fn count(n: &mut u64, so: bool) {
+    *n = n.wrapping_add(so as u64);
 }
 
-// One more where it is so.
-fn more(n: u64, so: bool) -> u64 {
-    wrapping_add_u64(n, so as u64)
-}
-
-// One routing more, by the answer that is expected.
-pub fn add(tally: Tally, routing: Routing, wrong: bool) -> Tally {
-    let number = routing.number;
-    let mut sum = tally;
-    sum.routings = more(sum.routings, true);
-    sum.wrong = more(sum.wrong, wrong);
-    match number {
-        0 => sum.routed = more(sum.routed, true),
-        9 => sum.no_room = more(sum.no_room, true),
-        18 => sum.two_nets = more(sum.two_nets, true),
-        _ => sum.refused = more(sum.refused, true),
-    }
-    if sum.most < routing.tracks as u64 {
-        sum.most = routing.tracks as u64;
-    }
-    count_spans(sum, routing)
-}
-
-fn count_spans(tally: Tally, routing: Routing) -> Tally {
-    let spans = routing.spans;
-    let mut sum = tally;
-    let mut k = 0;
-    while k < ROOM {
-        if k < routing.nets {
-            sum = count_span(sum, spans[k]);
+impl Tally {
+    // One routing more, by the answer that is expected.
+    pub fn add(&mut self, answer: &Answer, wrong: bool) {
+        count(&mut self.routings, true);
+        count(&mut self.wrong, wrong);
+        match answer {
+            Ok(routing) => self.add_routing(routing),
+            Err(TrackRefusal::SpanBuffer) => count(&mut self.no_room, true),
+            Err(TrackRefusal::TwoNets) => count(&mut self.two_nets, true),
+            Err(TrackRefusal::Listed(_)) => count(&mut self.refused, true),
         }
-        k += 1;
     }
-    sum
-}
 
-fn count_span(tally: Tally, span: Span) -> Tally {
-    let mut sum = tally;
-    sum.spans = more(sum.spans, true);
-    sum.trackless = more(sum.trackless, span.track == 0);
-    sum.leaving = more(sum.leaving, leaves(span.net) != 0);
-    sum
+    fn add_routing(&mut self, routing: &Routing) {
+        count(&mut self.routed, true);
+        self.most = self.most.max(routing.tracks);
+        for span in routing.spans.as_slice() {
+            count(&mut self.spans, true);
+            count(&mut self.trackless, span.track == 0);
+            count(&mut self.leaving, leaves(span.net).any());
+        }
+    }
 }

@@ -15,12 +15,10 @@ pub fn rows(work: &[u16], base: usize, x: usize, by: u64) -> u64
     ensures { (y : ℕ) → bit_of result y ≡ any_below (suc x) (λ (n : ℕ). bit_of by (x - n) && held work.now base n y) }
 {
     let mut found: u64 = 0;
-    let mut n = 0;
-    while n <= x {
+    for n in 0..=x {
         if bit(by, x - n) {
             found = either(read_word(work, base + 4 * n), found);
         }
-        n += 1;
     }
     found
 }

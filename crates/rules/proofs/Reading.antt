@@ -1,13 +1,7 @@
 -- Why the rules of a side, read terminal by terminal, are the side's, and leave every other word alone.
 -- Assumes nothing.
-use Prim.Native.Nat.{ℕ, ◌+◌, ◌≤◌, ◌<◌}
-use mathlib.Core.Path.{◌≡◌, refl, ◌∙◌, ap}
-use mathlib.Core.List.{List}
-use mathlib.Core.Bool.{Bool, true, false}
-use native.Mathlib.Omega.{arith}
-use lib.ListN.{length}
-use lib.Dec.{eqb}
-use borrow.Author.Tests.{eqb-true, eqb-false}
+use Rattle.std.proofs.Common.{ℕ, ◌+◌, ◌≤◌, ◌<◌, ◌≡◌, refl, ◌∙◌, ap, List, Bool, true, false, arith, length, eqb, eqb-true}
+use borrow.Author.Tests.{eqb-false}
 use Rattle.channel.specs.Sheet.{Terminal}
 use Rattle.arrays.specs.Rules.{pins, rule_words, range_at, allowed_at, put_rule}
 use Rattle.arrays.proofs.Rules.{length-put_rule, range-put, allowed-put, range-put-other, allowed-put-other}

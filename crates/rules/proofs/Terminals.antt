@@ -1,15 +1,9 @@
 -- Why the two words that are made for a terminal are its rule.
 -- Assumes nothing.
-use Prim.Native.Nat.{ℕ, zero, suc, ◌+◌, ◌-◌, ◌/◌, ◌%◌, ◌^◌, ◌≤◌, ◌<◌}
-use mathlib.Core.Path.{◌≡◌, refl, sym, ◌∙◌, ap}
-use mathlib.Core.List.{List}
-use mathlib.Core.Bool.{Bool, true, false, ◌&&◌, ◌||◌, and-true, and-false, or-false}
-use native.Mathlib.Omega.{arith}
-use native.Mathlib.Nat.{zero-add, suc-add}
-use native.Mathlib.Numerals.{add-one}
-use lib.ListN.{get_or}
-use lib.Dec.{leb, ltb, eqb, leb-suc-suc}
-use borrow.Author.Tests.{le-leb, lt-leb, ltb-true, ltb-false, lt-ltb, le-ltb, eqb-true, eqb-false}
+use Rattle.std.proofs.Common.{ℕ, zero, suc, ◌+◌, ◌-◌, ◌/◌, ◌%◌, ◌^◌, ◌≤◌, ◌<◌, ◌≡◌, refl, sym, ◌∙◌, ap, List, Bool, true, false, ◌&&◌, ◌||◌, arith, zero-add, suc-add, add-one, get_or, leb, ltb, eqb, le-leb, ltb-true, ltb-false, lt-ltb, le-ltb, eqb-true}
+use mathlib.Core.Bool.{and-true, and-false, or-false}
+use lib.Dec.{leb-suc-suc}
+use borrow.Author.Tests.{lt-leb, eqb-false}
 use Rattle.channel.specs.Sheet.{no_terminal}
 use Rattle.channel.specs.Assignment.{allows, in_range}
 use Rattle.channel.proofs.Sets.{allows_at}

@@ -4,12 +4,12 @@
 
 ghost use Rattle.std.specs.Prelude.{ℕ, ◌+◌, ◌≤◌, ◌<◌, ◌≡◌, length};
 ghost use Rattle.channel.specs.Assignment.{in_range};
-ghost use Rattle.arrays.specs.Rules.{pins, rule_words};
+ghost use Rattle.arrays.specs.Rules.{pins};
 ghost use Rattle.bits.specs.Bits.{bit_of};
 ghost use Rattle.format.specs.Parts.{terminals_in};
 ghost use Rattle.rules.specs.Sides.{TerminalRule, SideRead};
 
-use arrays::put_rule;
+use arrays::RuleTable;
 use bits::{either, single};
 use format::{count_in, terminal_at};
 use terminal::amount;
@@ -27,12 +27,10 @@ fn distances(least: u8, greatest: u8) -> u64
     ensures { (e : ℕ) → e < 64 → bit_of result e ≡ in_range least greatest 0 (e + 1) }
 {
     let mut found: u64 = 0;
-    let mut e: u8 = 0;
-    while e < 64 {
+    for e in 0..64 {
         if amount(0, e + 1, least, greatest) == 0 {
             found = either(found, single(e as usize));
         }
-        e += 1;
     }
     found
 }
@@ -46,7 +44,7 @@ fn rule_of(part: &[u8], place: usize) -> Rule
     let allowed = t.allowed >> (place - 1);
     if place == 1 {
         return Rule {
-            range: 18446744073709551615,
+            range: u64::MAX,
             allowed,
         };
     }
@@ -57,15 +55,13 @@ fn rule_of(part: &[u8], place: usize) -> Rule
 }
 
 // The rules of one side, 0 top and 1 bottom, from its section.
-pub fn read_rules(part: &[u8], rules: &mut [u64], side: usize)
-    requires { (length rules.old ≡ rule_words) × (side ≤ 1) × (length (terminals_in part.now) ≤ pins) }
-    ensures { SideRead side (terminals_in part.now) rules.old rules.new }
+pub fn read_rules(part: &[u8], rules: &mut RuleTable, side: usize)
+    requires { (side ≤ 1) × (length (terminals_in part.now) ≤ pins) }
+    ensures { SideRead side (terminals_in part.now) rules.old.words rules.new.words }
 {
     let count = count_in(part);
-    let mut i = 0;
-    while i < count {
+    for i in 0..count {
         let rule = rule_of(part, i + 1);
-        put_rule(rules, side, i + 1, rule.range, rule.allowed);
-        i += 1;
+        rules.put(side, i + 1, rule.range, rule.allowed);
     }
 }

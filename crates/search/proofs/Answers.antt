@@ -1,5 +1,6 @@
 -- Why the search keeps its promise: each way out of it, from what its calls answered.
 -- Assumes nothing.
+use Rattle.std.proofs.Common.{Result, Ok, Err}
 use Prim.Native.Nat.{ℕ, ◌≤◌, ◌<◌}
 use mathlib.Core.Path.{◌≡◌, refl, sym, ◌∙◌, ap}
 use mathlib.Core.List.{List}
@@ -10,19 +11,16 @@ use Rattle.channel.specs.Sheet.{Sheet}
 use Rattle.channel.specs.Best.{Found, best}
 use Rattle.channel.specs.Best.Found.{none, found}
 use Rattle.refusals.specs.declared.Refusal.{Refusal}
-use Rattle.refusals.specs.declared.Checked.{Checked}
 use Rattle.soundness.specs.Read.{sheet_of}
 use Rattle.sheet.specs.declared.Layout.{Layout}
-use Rattle.sheet.specs.declared.Opened.TheVariants as opened
 use Rattle.sheet.specs.declared.Shape.{Shape}
 use Rattle.format.specs.Parts.{bytes_of}
 use Rattle.sheet.specs.Parts.{opened_of, sheet_in}
 use Rattle.soundness.proofs.Laws.{read-sound}
 use Rattle.sheet.proofs.Laws.{opened_refused, Opens, opens, same_sheet, same_shape}
-use Rattle.searched.specs.declared.Searched.{Searched}
-use Rattle.searched.specs.declared.Searched.TheVariants as searched
-use Rattle.pass.specs.declared.Outcome.{Outcome}
-use Rattle.pass.specs.declared.Outcome.TheVariants as outcome
+use Rattle.searched.specs.declared.SearchRefusal.{SearchRefusal}
+use Rattle.searched.specs.declared.SearchRefusal.TheVariants as searched
+use Rattle.std.specs.Prelude.{Option, Some, None}
 use Rattle.search.specs.Answer.{pins_needed, cells_needed, answer_as, answer_in, answer_if, searched_of}
 use Rattle.search.specs.Answer.{columns_if, columns_after, work_if, work_after, Searches}
 use Rattle.solve.specs.Buffers.{with_columns, cleared}
@@ -31,23 +29,23 @@ use Rattle.solve.specs.Solved.{AsksSolve, outcome_of, Solved}
 module _ (b columns work : List ℕ) where
   -- the buffers go by the answer
   answered :
-      (columns' work' : List ℕ) (r : Searched) → r ≡ searched_of b (length columns) (length work)
+      (columns' work' : List ℕ) (r : Result ℕ SearchRefusal) → r ≡ searched_of b (length columns) (length work)
       → columns' ≡ columns_if r (sheet_of b) columns → work' ≡ work_if r (sheet_of b) work → Searches b columns work columns' work' r
   unfolding columns_after work_after
   answered columns' work' r e c w =
       record {
         answer = e;
-        columns = c ∙ ap (λ (k : Searched). columns_if k (sheet_of b) columns) e;
-        cells = w ∙ ap (λ (k : Searched). work_if k (sheet_of b) work) e;
+        columns = c ∙ ap (λ (k : Result ℕ SearchRefusal). columns_if k (sheet_of b) columns) e;
+        cells = w ∙ ap (λ (k : Result ℕ SearchRefusal). work_if k (sheet_of b) work) e;
       }
 
   -- 1 to 8
-  pub answers_sheet : (why : Refusal) → opened_of b ≡ opened.Refused why → Searches b columns work columns work (searched.Sheet why)
+  pub answers_sheet : (why : Refusal) → opened_of b ≡ Err why → Searches b columns work columns work (Err (searched.Sheet why))
   unfolding searched_of
   answers_sheet why e = answered columns work _ (rw (opened_refused b why e)) refl refl
 
   -- a sheet that opens, with its layout
-  module _ (layout : Layout) (opening : opened_of b ≡ opened.Sound layout) where
+  module _ (layout : Layout) (opening : opened_of b ≡ Ok layout) where
     laws : Opens b layout
     laws = opens b layout opening
 
@@ -56,7 +54,7 @@ module _ (b columns work : List ℕ) where
 
     answers : (k m : ℕ) → searched_of b k m ≡ answer_in (sheet_of b) k m
     unfolding searched_of
-    answers k m = ap (λ (r : Checked). answer_if r (sheet_of b) k m) laws.checks
+    answers k m = ap (λ (r : Result Unit Refusal). answer_if r (sheet_of b) k m) laws.checks
 
     pins : n.pins ≡ pins_needed (sheet_of b)
     pins = ap (λ (k : Shape). k.pins) laws.shape
@@ -65,13 +63,13 @@ module _ (b columns work : List ℕ) where
     cells = ap (λ (k : Shape). k.cells) laws.shape
 
     -- 9 and 10
-    pub answers-columns : length columns < n.pins → Searches b columns work columns work searched.Columns
+    pub answers-columns : length columns < n.pins → Searches b columns work columns work (Err searched.Columns)
     unfolding answer_in
     answers-columns h =
         let less : length columns < pins_needed (sheet_of b) = rw pins at h in
         answered columns work _ (sym (answers _ _ ∙ rw (lt-ltb _ _ less))) refl refl
 
-    pub answers-cells : n.pins ≤ length columns → length work < n.cells → Searches b columns work columns work searched.Cells
+    pub answers-cells : n.pins ≤ length columns → length work < n.cells → Searches b columns work columns work (Err searched.Cells)
     unfolding answer_in
     answers-cells g h =
         let less : length work < cells_needed (sheet_of b) = rw cells at h in
@@ -94,7 +92,7 @@ module _ (b columns work : List ℕ) where
           }
 
       -- the least density or 11
-      module _ (g : n.pins ≤ length columns) (h : n.cells ≤ length work) (columns' work' : List ℕ) (r : Outcome)
+      module _ (g : n.pins ≤ length columns) (h : n.cells ≤ length work) (columns' work' : List ℕ) (r : Option ℕ)
           (solved : Solved tops bottoms n columns columns' work work' r)
         where
           written : columns' ≡ with_columns (best (sheet_of b)) columns
@@ -110,24 +108,24 @@ module _ (b columns work : List ℕ) where
               let c : cells_needed (sheet_of b) ≤ length work = rw cells at h in
               answers _ _ ∙ rw (le-ltb _ _ a, le-ltb _ _ c)
 
-          found-one : (d : ℕ) → r ≡ outcome.Least d → answer_as (best (sheet_of b)) ≡ searched.Found d
+          found-one : (d : ℕ) → r ≡ Some d → answer_as (best (sheet_of b)) ≡ Ok d
           found-one d e = by_best (best (sheet_of b)) (sym (solved.outcome ∙ ap (λ (s : Sheet). outcome_of (best s)) same) ∙ e)
             where
-              by_best : (f : Found) → outcome_of f ≡ outcome.Least d → answer_as f ≡ searched.Found d
+              by_best : (f : Found) → outcome_of f ≡ Some d → answer_as f ≡ Ok d
               by_best none q = let z : ◌≡◌ {A = ℕ} 0 1 = cc in absurd (omega arith)
-              by_best (found k cs) q = let z : k ≡ d = cc in ap searched.Found z
+              by_best (found k cs) q = let z : k ≡ d = cc in ap Ok z
 
-          found_none : r ≡ outcome.Nothing → best (sheet_of b) ≡ none
+          found_none : r ≡ None → best (sheet_of b) ≡ none
           found_none e = by_best (best (sheet_of b)) (sym (solved.outcome ∙ ap (λ (s : Sheet). outcome_of (best s)) same) ∙ e)
             where
-              by_best : (f : Found) → outcome_of f ≡ outcome.Nothing → f ≡ none
+              by_best : (f : Found) → outcome_of f ≡ None → f ≡ none
               by_best none q = refl
               by_best (found k cs) q = let z : ◌≡◌ {A = ℕ} 0 1 = cc in absurd (omega arith)
 
-          pub answers-found : (d : ℕ) → r ≡ outcome.Least d → Searches b columns work columns' work' (searched.Found d)
+          pub answers-found : (d : ℕ) → r ≡ Some d → Searches b columns work columns' work' (Ok d)
           answers-found d e = answered columns' work' _ (sym (enough ∙ found-one d e)) written zeros
 
-          pub answers-none : r ≡ outcome.Nothing → Searches b columns work columns' work' searched.NoAssignment
+          pub answers-none : r ≡ None → Searches b columns work columns' work' (Err searched.NoAssignment)
           answers-none e =
               answered columns' work' _ (sym (enough ∙ ap answer_as (found_none e)))
               (written ∙ ap (λ (f : Found). with_columns f columns) (found_none e)) zeros

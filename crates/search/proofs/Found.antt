@@ -1,5 +1,6 @@
 -- What a search that found an assignment found: the best one of a sound sheet, with its columns in front of the column buffer.
 -- Assumes nothing.
+use Rattle.std.proofs.Common.{Result, Ok, Err}
 use Prim.Native.Nat.{ℕ, ◌+◌}
 use mathlib.Core.Path.{◌≡◌, refl, sym, ◌∙◌, ap, ap₂, subst}
 use mathlib.Core.List.{List, ◌++◌}
@@ -15,18 +16,17 @@ use Rattle.channel.specs.Best.{Found, best, IsBest, Answers}
 use Rattle.channel.specs.Best.Found.{none, found}
 use Rattle.channel.proofs.Best.{best_answers}
 use Rattle.channel.proofs.Assignments.{fits_lengths}
-use Rattle.refusals.specs.declared.Checked.{Checked}
-use Rattle.refusals.specs.declared.Checked.TheVariants as checked
 use Rattle.refusals.proofs.Refused.{number_some}
 use Rattle.soundness.specs.Check.{check_of}
 use Rattle.soundness.specs.Read.{read, sheet_of}
 use Rattle.soundness.specs.Read.Read.{sound}
 use Rattle.soundness.proofs.Laws.{read_checked, read-sound, sound-read}
-use Rattle.searched.specs.declared.Searched.{Searched}
-use Rattle.searched.specs.declared.Searched.TheVariants as searched
+use Rattle.searched.specs.declared.SearchRefusal.{SearchRefusal}
+use Rattle.searched.specs.declared.SearchRefusal.TheVariants as searched
 use Rattle.searched.specs.Numbers.{number_of, density_of}
 use Rattle.search.specs.Answer.{pins_needed, cells_needed, answer_as, answer_in, answer_if}
 use Rattle.search.specs.Answer.{searched_of, columns_after, Searches}
+use Rattle.refusals.specs.declared.Refusal.{Refusal}
 use Rattle.search.specs.Returned.{Gives, LongEnough}
 
 -- an assignment has a column for each terminal
@@ -39,7 +39,7 @@ assignment_length s es h =
     ∙ ap₂ (λ (m n : ℕ). m + n) t b
 
 -- a search of a sound sheet whose best assignment is known
-module _ {bytes buffer work buffer' work' : List ℕ} {r : Searched} (searches : Searches bytes buffer work buffer' work' r) {s : Sheet}
+module _ {bytes buffer work buffer' work' : List ℕ} {r : Result ℕ SearchRefusal} (searches : Searches bytes buffer work buffer' work' r) {s : Sheet}
     (long : LongEnough bytes s (length buffer) (length work))
   where
     -- its answer
@@ -54,7 +54,7 @@ module _ {bytes buffer work buffer' work' : List ℕ} {r : Searched} (searches :
       pub is_best : IsBest s d cs
       is_best = subst (Answers s) e (best_answers s (read-sound bytes s long.reads))
 
-      pub answers-found : searched_of bytes (length buffer) (length work) ≡ searched.Found d
+      pub answers-found : searched_of bytes (length buffer) (length work) ≡ Ok d
       answers-found = answers-best ∙ ap answer_as e
 
       columns-written : buffer' ≡ cs ++ drop (length cs) buffer
@@ -94,32 +94,32 @@ module _ (b : List ℕ) (k m d : ℕ) where
     pub best : best (sheet_of b) ≡ found d columns
 
   by_best :
-      LongEnough b (sheet_of b) k m → (f : Found) → best (sheet_of b) ≡ f → answer_as f ≡ searched.Found d → Finds
+      LongEnough b (sheet_of b) k m → (f : Found) → best (sheet_of b) ≡ f → answer_as f ≡ Ok d → Finds
   by_best long none e q = let z : ◌≡◌ {A = ℕ} 0 1 = cc in absurd (omega arith)
   by_best long (found j cs) e q =
       let z : j ≡ d = cc in record { long = long; columns = cs; best = e ∙ ap (λ (i : ℕ). found i cs) z }
 
   by_room :
       read b ≡ sound (sheet_of b) → (few less : Bool) → ltb k (pins_needed (sheet_of b)) ≡ few → ltb m (cells_needed (sheet_of b)) ≡ less
-      → cond few searched.Columns (cond less searched.Cells (answer_as (best (sheet_of b)))) ≡ searched.Found d → Finds
+      → cond few (Err searched.Columns) (cond less (Err searched.Cells) (answer_as (best (sheet_of b)))) ≡ Ok d → Finds
   by_room reads true less e f q = let z : ◌≡◌ {A = ℕ} 0 1 = cc in absurd (omega arith)
   by_room reads false true e f q = let z : ◌≡◌ {A = ℕ} 0 1 = cc in absurd (omega arith)
   by_room reads false false e f q =
       by_best (record { reads = reads; pins = ltb-false _ _ e; cells = ltb-false _ _ f }) (best (sheet_of b)) refl q
 
-  by_check : (r : Checked) → check_of b ≡ r → answer_if r (sheet_of b) k m ≡ searched.Found d → Finds
+  by_check : (r : Result Unit Refusal) → check_of b ≡ r → answer_if r (sheet_of b) k m ≡ Ok d → Finds
   unfolding answer_in
-  by_check checked.Sound e q = by_room (sound-read b e) _ _ refl refl q
-  by_check (checked.Refused why) e q = let z : ◌≡◌ {A = ℕ} 0 1 = cc in absurd (omega arith)
+  by_check (Ok tt) e q = by_room (sound-read b e) _ _ refl refl q
+  by_check (Err why) e q = let z : ◌≡◌ {A = ℕ} 0 1 = cc in absurd (omega arith)
 
-  pub finds : searched_of b k m ≡ searched.Found d → Finds
+  pub finds : searched_of b k m ≡ Ok d → Finds
   unfolding searched_of
   finds = by_check (check_of b) refl
 
 -- an answer with the number 0 is a density
-pub zero_found : (r : Searched) → number_of r ≡ 0 → r ≡ searched.Found (density_of r)
-zero_found (searched.Found d) e = refl
-zero_found (searched.Sheet why) e = absurd (number_some why e)
-zero_found searched.Columns e = absurd (omega arith)
-zero_found searched.Cells e = absurd (omega arith)
-zero_found searched.NoAssignment e = absurd (omega arith)
+pub zero_found : (r : Result ℕ SearchRefusal) → number_of r ≡ 0 → r ≡ Ok (density_of r)
+zero_found (Ok d) e = refl
+zero_found (Err (searched.Sheet why)) e = absurd (number_some why e)
+zero_found (Err searched.Columns) e = absurd (omega arith)
+zero_found (Err searched.Cells) e = absurd (omega arith)
+zero_found (Err searched.NoAssignment) e = absurd (omega arith)

@@ -1,5 +1,6 @@
 -- Demands 1 and 2 of one search: what a run that keeps its promise returned and left.
 -- Assumes nothing.
+use Rattle.std.proofs.Common.{Result, Ok, Err}
 use Prim.Native.Nat.{ℕ, ◌≤◌, ◌<◌}
 use mathlib.Core.Path.{◌≡◌, refl, sym, ◌∙◌, ap, subst}
 use mathlib.Core.List.{List}
@@ -14,17 +15,17 @@ use Rattle.channel.proofs.Best.{best_answers}
 use Rattle.soundness.specs.Read.{read, sheet_of}
 use Rattle.soundness.specs.Read.Read.{sound, refused}
 use Rattle.soundness.proofs.Laws.{read-sound, read_checked, read-refused}
-use Rattle.searched.specs.declared.Searched.{Searched}
-use Rattle.searched.specs.declared.Searched.TheVariants as searched
+use Rattle.searched.specs.declared.SearchRefusal.{SearchRefusal}
+use Rattle.searched.specs.declared.SearchRefusal.TheVariants as searched
 use Rattle.searched.specs.Numbers.{number_of, density_of}
 use Rattle.search.specs.Answer.{pins_needed, cells_needed, answer_as, answer_in, searched_of, columns_if}
 use Rattle.search.specs.Answer.{columns_after, work_if, work_after, Searches}
 use Rattle.search.specs.Returned.{Refuses, LongEnough, Decides, Returned}
 use Rattle.search.proofs.Found.{answers-best, is_best, gives, columns-behind}
 
-module _ (bytes columns work columns' work' : List ℕ) (r : Searched) (searches : Searches bytes columns work columns' work' r) where
+module _ (bytes columns work columns' work' : List ℕ) (r : Result ℕ SearchRefusal) (searches : Searches bytes columns work columns' work' r) where
   -- the answer is known to be a, by which the buffers go
-  module _ (a : Searched) (e : searched_of bytes (length columns) (length work) ≡ a) where
+  module _ (a : Result ℕ SearchRefusal) (e : searched_of bytes (length columns) (length work) ≡ a) where
     answer : r ≡ a
     answer = searches.answer ∙ e
 
@@ -41,7 +42,7 @@ module _ (bytes columns work columns' work' : List ℕ) (r : Searched) (searches
   unfolding searched_of
   unsound n h =
       let (why, checks, number) = read-refused bytes n h in
-      let a : Searched = searched.Sheet why in
+      let a : Result ℕ SearchRefusal = Err (searched.Sheet why) in
       let e : searched_of bytes (length columns) (length work) ≡ a = rw checks in
       record {
         returned = ap number_of (answer a e) ∙ number;
@@ -56,7 +57,7 @@ module _ (bytes columns work columns' work' : List ℕ) (r : Searched) (searches
     unfolding searched_of answer_in
     few_bytes few =
         let (checks, same) = read_checked bytes s h in
-        let a : Searched = searched.Columns in
+        let a : Result ℕ SearchRefusal = (Err searched.Columns) in
         let e : searched_of bytes (length columns) (length work) ≡ a = rw (checks, ← same, lt-ltb _ _ few) in
         record {
           returned = ap number_of (answer a e);
@@ -71,7 +72,7 @@ module _ (bytes columns work columns' work' : List ℕ) (r : Searched) (searches
     unfolding searched_of answer_in
     few_cells enough few =
         let (checks, same) = read_checked bytes s h in
-        let a : Searched = searched.Cells in
+        let a : Result ℕ SearchRefusal = (Err searched.Cells) in
         let e : searched_of bytes (length columns) (length work) ≡ a = rw (checks, ← same, le-ltb _ _ enough, lt-ltb _ _ few) in
         record {
           returned = ap number_of (answer a e);
@@ -87,7 +88,7 @@ module _ (bytes columns work columns' work' : List ℕ) (r : Searched) (searches
 
     by_best : (f : Found) → best s ≡ f → Decides s (number_of r) (density_of r) columns work columns' work'
     by_best none e =
-        let a : Searched = searched.NoAssignment in
+        let a : Result ℕ SearchRefusal = Err searched.NoAssignment in
         let q = answers-best searches long ∙ ap answer_as e in
         let all = subst (Answers s) e (best_answers s (read-sound bytes s long.reads)) in
         record {
@@ -97,7 +98,7 @@ module _ (bytes columns work columns' work' : List ℕ) (r : Searched) (searches
           cells = rw same_sheet (cells-after a q);
         }
     by_best (found d cs) e =
-        let a : Searched = searched.Found d in
+        let a : Result ℕ SearchRefusal = Ok d in
         let q = answers-best searches long ∙ ap answer_as e in
         let given = gives searches long e in
         record {

@@ -1,5 +1,6 @@
 -- Demand 3 of the search: what two searches return.
 -- Assumes nothing.
+use Rattle.std.proofs.Common.{Result}
 use Prim.Native.Nat.{ℕ}
 use mathlib.Core.Path.{◌≡◌, refl, sym, ◌∙◌, subst}
 use mathlib.Core.List.{List}
@@ -14,7 +15,7 @@ use Rattle.channel.specs.Pairs.{LeastKept}
 use Rattle.channel.proofs.Best.{best_answers}
 use Rattle.channel.proofs.Pairs.{least_kept}
 use Rattle.soundness.proofs.Laws.{read-sound}
-use Rattle.searched.specs.declared.Searched.{Searched}
+use Rattle.searched.specs.declared.SearchRefusal.{SearchRefusal}
 use Rattle.searched.specs.Numbers.{number_of, density_of}
 use Rattle.search.specs.Answer.{Searches}
 use Rattle.search.specs.Returned.{LongEnough}
@@ -23,7 +24,7 @@ use Rattle.search.proofs.Found.{density-found, gives}
 
 -- demand 3
 pub two_searches :
-    (a b c u c' u' d v d' v' : List ℕ) (r r' : Searched) → Searches a c u c' u' r → Searches b d v d' v' r' → (s t : Sheet)
+    (a b c u c' u' d v d' v' : List ℕ) (r r' : Result ℕ SearchRefusal) → Searches a c u c' u' r → Searches b d v d' v' r' → (s t : Sheet)
     → LongEnough a s (length c) (length u) → LongEnough b t (length d) (length v)
     → Kept s t (number_of r) (density_of r) (number_of r') (density_of r') c' d'
 two_searches a b c u c' u' d v d' v' r r' one two s t long long' =

@@ -6,9 +6,8 @@ ghost use Rattle.sheet.specs.Parts.{opened_of};
 ghost use Rattle.search.specs.Answer.{Searches};
 ghost use Rattle.search.specs.Pair.{SearchesBoth};
 
-use pass::Outcome;
-use searched::Searched;
-use sheet::{Layout, Opened};
+use searched::{SearchRefusal, Searched};
+use sheet::Layout;
 
 // The answers of two searches.
 #[derive(Clone, Copy)]
@@ -21,31 +20,28 @@ pub struct Both {
 pub fn search(s: &[u8], columns: &mut [u8], work: &mut [u16]) -> Searched
     ensures { Searches s.now columns.old work.old columns.new work.new result }
 {
-    let opened = sheet::open(s);
-    match opened {
-        Opened::Sound(layout) => search_layout(s, layout, columns, work),
-        Opened::Refused(why) => Searched::Sheet(why),
-    }
+    let layout = sheet::open(s)?;
+    search_layout(s, layout, columns, work)
 }
 
 // The same of a sheet that opened with this layout.
 fn search_layout(s: &[u8], layout: Layout, columns: &mut [u8], work: &mut [u16]) -> Searched
-    requires { opened_of s.now ≡ Opened.Sound layout }
+    requires { opened_of s.now ≡ Ok layout }
     ensures { Searches s.now columns.old work.old columns.new work.new result }
 {
     let shape = layout.shape;
     if columns.len() < shape.pins {
-        return Searched::Columns;
+        return Err(SearchRefusal::Columns);
     }
     if work.len() < shape.cells {
-        return Searched::Cells;
+        return Err(SearchRefusal::Cells);
     }
     let top = format::part_in(s, layout.top);
     let bottom = format::part_in(s, layout.bottom);
-    let outcome = solve::solve(top, bottom, shape, columns, work);
-    match outcome {
-        Outcome::Least(d) => Searched::Found(d),
-        Outcome::Nothing => Searched::NoAssignment,
+    let least = solve::solve(top, bottom, shape, columns, work);
+    match least {
+        Some(d) => Ok(d),
+        None => Err(SearchRefusal::NoAssignment),
     }
 }
 

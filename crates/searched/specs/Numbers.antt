@@ -1,22 +1,22 @@
 -- The number and the density of a search's answer (document 01, "The refusal list").
 -- Assumes nothing.
-use Rattle.std.specs.Prelude.{ℕ}
+use Rattle.std.specs.Prelude.{ℕ, Result}
 use Rattle.refusals.specs.Refusals as refusals
-use Rattle.searched.specs.declared.Searched.{Searched}
-use Rattle.searched.specs.declared.Searched.TheVariants.{Found, Sheet as Unsound, Columns, Cells, NoAssignment}
+use Rattle.refusals.specs.Answers.{number_in, value_in}
+use Rattle.searched.specs.declared.SearchRefusal.{SearchRefusal}
+use Rattle.searched.specs.declared.SearchRefusal.TheVariants.{Sheet, Columns, Cells, NoAssignment}
 
--- the number of an answer, 0 with a density
-abbrev pub number_of : Searched → ℕ
-number_of (Found d) = 0
-number_of (Unsound why) = refusals.number_of why
-number_of Columns = 9
-number_of Cells = 10
-number_of NoAssignment = 11
+-- the number of each refusal
+abbrev pub search_number : SearchRefusal → ℕ
+search_number (Sheet why) = refusals.number_of why
+search_number Columns = 9
+search_number Cells = 10
+search_number NoAssignment = 11
+
+-- 0 with a density
+abbrev pub number_of : Result ℕ SearchRefusal → ℕ
+number_of answer = number_in search_number answer
 
 -- "Each refusal carries density 0"
-abbrev pub density_of : Searched → ℕ
-density_of (Found d) = d
-density_of (Unsound why) = 0
-density_of Columns = 0
-density_of Cells = 0
-density_of NoAssignment = 0
+abbrev pub density_of : Result ℕ SearchRefusal → ℕ
+density_of answer = value_in answer

@@ -1,44 +1,43 @@
-// The answer of a search, and its number and density by document 01's refusal list.
+// The answer of a search, and its number by document 01's refusal list.
 #![tactic(auto)]
 
 ghost use Rattle.std.specs.Prelude.{◌≡◌};
-ghost use Rattle.searched.specs.Numbers.{number_of, density_of};
+ghost use Rattle.searched.specs.Numbers.{search_number};
 
-use refusals::Refusal;
+use refusals::{Reason, Refusal};
 
-// The least density, or why there is none: the sheet is refused, the column buffer or the work buffer is too short, or the sheet has no
-// assignment.
-#[derive(Clone, Copy)]
-pub enum Searched {
-    Found(u8),
+// The least density, or why there is none.
+pub type Searched = Result<u8, SearchRefusal>;
+
+// Why a search finds nothing: the sheet is refused, the column buffer or the work buffer is too short, or the sheet has no assignment.
+#[derive(Clone, Copy, Debug, PartialEq, Eq)]
+pub enum SearchRefusal {
     Sheet(Refusal),
     Columns,
     Cells,
     NoAssignment,
 }
 
-// The number of a refusal; 0 with a density.
-pub fn number_of(answer: Searched) -> u8
-    ensures { result ≡ number_of answer }
-{
-    match answer {
-        Searched::Found(_) => 0,
-        Searched::Sheet(why) => refusals::number_of(why),
-        Searched::Columns => 9,
-        Searched::Cells => 10,
-        Searched::NoAssignment => 11,
+impl Reason for SearchRefusal {
+    ghost number = { search_number };
+
+    fn number(self) -> u8 {
+        match self {
+            SearchRefusal::Sheet(refusal) => refusal.number(),
+            SearchRefusal::Columns => 9,
+            SearchRefusal::Cells => 10,
+            SearchRefusal::NoAssignment => 11,
+        }
     }
 }
 
-// The density; 0 with a refusal.
-pub fn density_of(answer: Searched) -> u8
-    ensures { result ≡ density_of answer }
-{
-    match answer {
-        Searched::Found(density) => density,
-        Searched::Sheet(_) => 0,
-        Searched::Columns => 0,
-        Searched::Cells => 0,
-        Searched::NoAssignment => 0,
+// A search is refused with its sheet.
+impl From<Refusal> for SearchRefusal {
+    ghost use Rattle.searched.specs.declared.SearchRefusal.TheVariants.{Sheet};
+
+    ghost from_gives = { λ why answer. answer ≡ Sheet why };
+
+    fn from(why: Refusal) -> Self {
+        SearchRefusal::Sheet(why)
     }
 }

@@ -1,5 +1,6 @@
 -- What the layers above may use of the sheet layer: laws of its definitions that say nothing of where a byte stands.
 -- Assumes nothing.
+use Rattle.std.proofs.Common.{Ok, Err}
 use Prim.Native.Nat.{ℕ}
 use mathlib.Core.Path.{◌≡◌, refl, sym, ◌∙◌, ap}
 use mathlib.Core.List.{List}
@@ -10,13 +11,11 @@ use Rattle.format.specs.declared.Side.TheVariants.{Top, Bottom}
 use Rattle.format.specs.Format.{of_side}
 use Rattle.format.specs.Parts.{bytes_of, terminals_in}
 use Rattle.refusals.specs.declared.Refusal.{Refusal}
-use Rattle.refusals.specs.declared.Checked.TheVariants.{Sound}
 use Rattle.refusals.specs.Refusals.{number_of}
 use Rattle.soundness.specs.Check.{check_of}
 use Rattle.soundness.specs.Read.{sheet_of, read}
 use Rattle.soundness.specs.Read.Read.{sound, refused}
 use Rattle.sheet.specs.declared.Layout.{Layout}
-use Rattle.sheet.specs.declared.Opened.TheVariants.{Sound as Laid, Refused as Unsound}
 use Rattle.sheet.specs.declared.Shape.{Shape}
 use Rattle.sheet.specs.Parts.{shape, shape_as, shape_of, layout_of, opened_of, section_of, sheet_in, entry_of, entry_in}
 use Rattle.soundness.proofs.Laws.{sound-read, read_checked, read-refused}
@@ -32,23 +31,23 @@ unfolding shape_of
 shape-read b s h = ap shape_as h
 
 -- a sheet that reads opens, and one that does not is refused with its number
-pub read_opened : (b : List ℕ) (s : Sheet) → read b ≡ sound s → (opened_of b ≡ Laid (layout_of b)) × (s ≡ sheet_of b)
+pub read_opened : (b : List ℕ) (s : Sheet) → read b ≡ sound s → (opened_of b ≡ Ok (layout_of b)) × (s ≡ sheet_of b)
 unfolding opened_of
 read_opened b s h = let (checks, same) = read_checked b s h in (rw checks, same)
 
-pub read_unopened : (b : List ℕ) (n : ℕ) → read b ≡ refused n → (why : Refusal) × (opened_of b ≡ Unsound why) × (number_of why ≡ n)
+pub read_unopened : (b : List ℕ) (n : ℕ) → read b ≡ refused n → (why : Refusal) × (opened_of b ≡ Err why) × (number_of why ≡ n)
 unfolding opened_of
 read_unopened b n h = let (why, checks, number) = read-refused b n h in (why, rw checks, number)
 
 -- what a sheet that opens says: it reads, its shape is that of the sheet, and its parts hold the terminals of the sides
 pub record Opens (b : List ℕ) (n : Layout) : Type 0 where
-  pub checks : check_of b ≡ Sound
+  pub checks : check_of b ≡ Ok tt
   pub reads : read b ≡ sound (sheet_of b)
   pub shape : n.shape ≡ shape (sheet_of b).columns (length (sheet_of b).top) (length (sheet_of b).bottom)
   pub top : terminals_in (bytes_of b n.top) ≡ (sheet_of b).top
   pub bottom : terminals_in (bytes_of b n.bottom) ≡ (sheet_of b).bottom
 
-pub opens : (b : List ℕ) (n : Layout) → opened_of b ≡ Laid n → Opens b n
+pub opens : (b : List ℕ) (n : Layout) → opened_of b ≡ Ok n → Opens b n
 opens b n h =
     let (checks, laid) = opened_sound b n h in
     let reads = sound-read b checks in

@@ -1,5 +1,6 @@
 -- Laws of the parts of a sheet: its shape and its sections, and that a record of a section is that record of the sheet.
 -- Assumes nothing.
+use Rattle.std.proofs.Common.{Result, Ok, Err, Some, None}
 use Prim.Native.Nat.{ℕ, zero, suc, ◌+◌, ◌-◌, ◌*◌, ◌≤◌, ◌<◌}
 use mathlib.Core.Path.{◌≡◌, refl, sym, ◌∙◌, ap}
 use mathlib.Core.List.{List, [], ◌∷◌}
@@ -17,14 +18,10 @@ use Rattle.trailer.specs.Trailer.{trailer_of}
 use Rattle.format.specs.Format.{record_size, terminals_from, of_side, part_of}
 use Rattle.format.specs.Parts.{bytes_of, offset_of, terminals_in}
 use Rattle.format.proofs.Records.{part_terminals}
-use Rattle.refusals.specs.declared.Checked.{Checked}
-use Rattle.refusals.specs.declared.Checked.TheVariants.{Sound, Refused}
 use Rattle.soundness.specs.Check.{terminals_of, check_of}
 use Rattle.soundness.specs.Read.{Read, sheet_of, read}
 use Rattle.soundness.specs.Read.Read.{sound, refused}
-use Rattle.sheet.specs.declared.Entry.TheVariants.{Terminal as Found, Nothing}
 use Rattle.sheet.specs.declared.Layout.{Layout}
-use Rattle.sheet.specs.declared.Opened.TheVariants.{Sound as Laid, Refused as Unsound}
 use Rattle.sheet.specs.Parts.{no_shape, shape_of, layout_of, opened_as, opened_of, section_of}
 use Rattle.sheet.specs.Parts.{section_at, nth, entry_of, entry_in, side_of, entry_as, entry_at}
 use Rattle.form.proofs.Forms.{Formed}
@@ -32,12 +29,12 @@ use Rattle.soundness.proofs.Checks.{whole}
 use Rattle.soundness.proofs.Laws.{sound-read, refused-read}
 
 -- the record at a place that there is, and nothing behind the last
-nth-found : (ts : List Terminal) (k : ℕ) → k < length ts → Found (record_of (get_or ts k no_terminal)) ≡ nth ts k
+nth-found : (ts : List Terminal) (k : ℕ) → k < length ts → Some (record_of (get_or ts k no_terminal)) ≡ nth ts k
 nth-found [] k h = elim h [ ]
 nth-found (t ∷ ts) zero h = refl
 nth-found (t ∷ ts) (suc k) h = nth-found ts k (omega arith)
 
-nth_past : (ts : List Terminal) (k : ℕ) → length ts ≤ k → nth ts k ≡ Nothing
+nth_past : (ts : List Terminal) (k : ℕ) → length ts ≤ k → nth ts k ≡ None
 nth_past (t ∷ ts) zero h = elim h [ ]
 nth_past [] k h = refl
 nth_past (t ∷ ts) (suc k) h = nth_past ts k (omega arith)
@@ -50,16 +47,16 @@ entry_at_lem ts (suc k) h = ap (nth ts) (omega arith)
 -- what a place of any bytes gives
 module _ (part : List ℕ) (place : ℕ) (some : place ≡ 0 → ⊥) where
   pub entry_found : place - 1 < length (terminals_in part)
-      → Found (record_of (get_or (terminals_in part) (place - 1) no_terminal)) ≡ entry_in part place
+      → Some (record_of (get_or (terminals_in part) (place - 1) no_terminal)) ≡ entry_in part place
   unfolding entry_in
   entry_found h = nth-found (terminals_in part) (place - 1) h ∙ sym (entry_at_lem (terminals_in part) place some)
 
-  pub entry-nothing : length (terminals_in part) ≤ place - 1 → Nothing ≡ entry_in part place
+  pub entry-nothing : length (terminals_in part) ≤ place - 1 → None ≡ entry_in part place
   unfolding entry_in
   entry-nothing h = sym (entry_at_lem (terminals_in part) place some ∙ nth_past (terminals_in part) (place - 1) h)
 
 -- what is said of a refused sheet
-module _ (b : List ℕ) (why : Refusal) (refuses : check_of b ≡ Refused why) where
+module _ (b : List ℕ) (why : Refusal) (refuses : check_of b ≡ Err why) where
   pub refused-section : (side : Side) → [] ≡ section_of b side
   unfolding section_of
   refused-section side = rw refuses
@@ -73,7 +70,7 @@ module _ (b : List ℕ) (why : Refusal) (refuses : check_of b ≡ Refused why) w
   refused-shape = rw (refused-read b why refuses)
 
 -- and of a sound one, whose trailer is t
-module _ (b : List ℕ) (sounds : check_of b ≡ Sound) where
+module _ (b : List ℕ) (sounds : check_of b ≡ Ok tt) where
   pub sound_form : Formed b
   sound_form = (whole b sounds).form
 
@@ -106,21 +103,21 @@ module _ (b : List ℕ) (sounds : check_of b ≡ Sound) where
     sound-at = rw sounds (min-eq_left (omega (arith, sound-room)) ∙ ap (λ (k : Part). k.at) e)
 
 -- what opening a sheet says of its check
-pub opened_sound : (b : List ℕ) (n : Layout) → opened_of b ≡ Laid n → (check_of b ≡ Sound) × (n ≡ layout_of b)
+pub opened_sound : (b : List ℕ) (n : Layout) → opened_of b ≡ Ok n → (check_of b ≡ Ok tt) × (n ≡ layout_of b)
 unfolding opened_of
 opened_sound b n h = by_check (check_of b) refl h
   where
-    by_check : (r : Checked) → check_of b ≡ r → opened_as b r ≡ Laid n → (check_of b ≡ Sound) × (n ≡ layout_of b)
-    by_check Sound e h = (e, cc)
-    by_check (Refused why) e h = let z : ◌≡◌ {A = ℕ} 0 1 = cc in absurd (omega arith)
+    by_check : (r : Result Unit Refusal) → check_of b ≡ r → opened_as b r ≡ Ok n → (check_of b ≡ Ok tt) × (n ≡ layout_of b)
+    by_check (Ok tt) e h = (e, cc)
+    by_check (Err why) e h = let z : ◌≡◌ {A = ℕ} 0 1 = cc in absurd (omega arith)
 
-pub opened_refused : (b : List ℕ) (why : Refusal) → opened_of b ≡ Unsound why → check_of b ≡ Refused why
+pub opened_refused : (b : List ℕ) (why : Refusal) → opened_of b ≡ Err why → check_of b ≡ Err why
 unfolding opened_of
 opened_refused b why h = by_check (check_of b) refl h
   where
-    by_check : (r : Checked) → check_of b ≡ r → opened_as b r ≡ Unsound why → check_of b ≡ Refused why
-    by_check Sound e h = let z : ◌≡◌ {A = ℕ} 0 1 = cc in absurd (omega arith)
-    by_check (Refused k) e h = let z : k ≡ why = cc in e ∙ ap Refused z
+    by_check : (r : Result Unit Refusal) → check_of b ≡ r → opened_as b r ≡ Err why → check_of b ≡ Err why
+    by_check (Ok tt) e h = let z : ◌≡◌ {A = ℕ} 0 1 = cc in absurd (omega arith)
+    by_check (Err k) e h = let z : k ≡ why = cc in e ∙ ap Err z
 
 -- a side's terminals are those of its part
 pub side_terminals_lem : (b : List ℕ) (side : Side) → terminals_of b (part_of (trailer_of b) side) ≡ terminals (sheet_of b) (side_of side)
@@ -137,9 +134,9 @@ section-records : (b : List ℕ) (side : Side) → terminals_in (section_of b si
 unfolding layout_of terminals_from terminals_in side_as
 section-records b side = by_check (check_of b) refl
   where
-    by_check : (r : Checked) → check_of b ≡ r → terminals_in (section_of b side) ≡ side_as side (read b)
-    by_check (Refused why) e = rw (← refused-section b why e side, refused-read b why e)
-    by_check Sound e =
+    by_check : (r : Result Unit Refusal) → check_of b ≡ r → terminals_in (section_of b side) ≡ side_as side (read b)
+    by_check (Err why) e = rw (← refused-section b why e side, refused-read b why e)
+    by_check (Ok tt) e =
         let part = of_side (layout_of b).top (layout_of b).bottom side in
         rw (← sound-section b e side part refl, sound-read b e) (side_terminals_lem b side)
 

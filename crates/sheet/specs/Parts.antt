@@ -1,6 +1,6 @@
 -- The parts of a sheet's bytes: its shape, one side's section, one terminal's record (document 01, "The sheet").
 -- Assumes nothing.
-use Rattle.std.specs.Prelude.{ℕ, zero, suc, ◌+◌, ◌*◌, List, [], ◌∷◌, length}
+use Rattle.std.specs.Prelude.{ℕ, zero, suc, ◌+◌, ◌*◌, List, [], ◌∷◌, length, Result, Ok, Err, Option, Some, None}
 use Rattle.channel.specs.Sheet.{Terminal, Sheet, sheet_with, terminals}
 use Rattle.channel.specs.Sheet as channel
 use Rattle.terminal.specs.Terminal.{record_of}
@@ -10,16 +10,12 @@ use Rattle.trailer.specs.declared.Trailer.{Trailer}
 use Rattle.trailer.specs.Trailer.{trailer_of}
 use Rattle.format.specs.Format.{part_of}
 use Rattle.format.specs.Parts.{bytes_of, terminals_in}
-use Rattle.refusals.specs.declared.Checked.{Checked}
-use Rattle.refusals.specs.declared.Checked.TheVariants.{Sound, Refused}
 use Rattle.soundness.specs.Check.{check_of}
 use Rattle.soundness.specs.Read.{Read, read}
 use Rattle.soundness.specs.Read.Read.{sound, refused}
-use Rattle.sheet.specs.declared.Entry.{Entry}
-use Rattle.sheet.specs.declared.Entry.TheVariants.{Terminal as Found, Nothing}
 use Rattle.sheet.specs.declared.Layout.{Layout}
-use Rattle.sheet.specs.declared.Opened.{Opened}
-use Rattle.sheet.specs.declared.Opened.TheVariants.{Sound as Laid, Refused as Unsound}
+use Rattle.refusals.specs.declared.Refusal.{Refusal}
+use Rattle.terminal.specs.declared.Record.{Record}
 use Rattle.sheet.specs.declared.Shape.{Shape}
 
 -- "a column buffer of at least p+q bytes, and a work buffer of at least (p+1)(q+1)(L+1)² 16-bit cells"
@@ -53,25 +49,25 @@ layout_of b =
     record { shape = shape t.columns t.top.count t.bottom.count; top = t.top; bottom = t.bottom }
 
 -- the sheet check's answer, with the layout of a sound sheet
-abbrev pub opened_as : List ℕ → Checked → Opened
-opened_as b Sound = Laid (layout_of b)
-opened_as b (Refused why) = Unsound why
+abbrev pub opened_as : List ℕ → Result Unit Refusal → Result Layout Refusal
+opened_as b (Ok tt) = Ok (layout_of b)
+opened_as b (Err why) = Err why
 
-unfoldable pub opened_of : List ℕ → Opened
+unfoldable pub opened_of : List ℕ → Result Layout Refusal
 opened_of b = opened_as b (check_of b)
 
 -- "that section of its own sheet. A refused sheet gives the empty part; so does a side with no terminals"
-abbrev pub section_as : List ℕ → Side → Checked → List ℕ
-section_as b side Sound = bytes_of b (part_of (trailer_of b) side)
-section_as b side (Refused why) = []
+abbrev pub section_as : List ℕ → Side → Result Unit Refusal → List ℕ
+section_as b side (Ok tt) = bytes_of b (part_of (trailer_of b) side)
+section_as b side (Err why) = []
 
 unfoldable pub section_of : List ℕ → Side → List ℕ
 section_of b side = section_as b side (check_of b)
 
 -- where it starts: "located through the trailer's offsets"; the empty part of a refused sheet stands at its start
-abbrev pub section_at_as : List ℕ → Side → Checked → ℕ
-section_at_as b side Sound = (part_of (trailer_of b) side).at
-section_at_as b side (Refused why) = 0
+abbrev pub section_at_as : List ℕ → Side → Result Unit Refusal → ℕ
+section_at_as b side (Ok tt) = (part_of (trailer_of b) side).at
+section_at_as b side (Err why) = 0
 
 unfoldable pub section_at : List ℕ → Side → ℕ
 section_at b side = section_at_as b side (check_of b)
@@ -81,17 +77,17 @@ abbrev pub sheet_in : ℕ → List ℕ → List ℕ → Sheet
 sheet_in l top bottom = sheet_with l (terminals_in top) (terminals_in bottom)
 
 -- the record at a place, from 1
-abbrev pub nth : List Terminal → ℕ → Entry
-nth [] k = Nothing
-nth (t ∷ ts) zero = Found (record_of t)
+abbrev pub nth : List Terminal → ℕ → Option Record
+nth [] k = None
+nth (t ∷ ts) zero = Some (record_of t)
 nth (t ∷ ts) (suc k) = nth ts k
 
-abbrev pub entry_of : List Terminal → ℕ → Entry
-entry_of ts zero = Nothing
+abbrev pub entry_of : List Terminal → ℕ → Option Record
+entry_of ts zero = None
 entry_of ts (suc k) = nth ts k
 
 -- of a section's bytes
-unfoldable pub entry_in : List ℕ → ℕ → Entry
+unfoldable pub entry_in : List ℕ → ℕ → Option Record
 entry_in part place = entry_of (terminals_in part) place
 
 -- of a sheet
@@ -99,9 +95,9 @@ abbrev pub side_of : Side → channel.Side
 side_of Top = channel.Side.top
 side_of Bottom = channel.Side.bottom
 
-abbrev pub entry_as : Side → ℕ → Read → Entry
+abbrev pub entry_as : Side → ℕ → Read → Option Record
 entry_as side place (sound s) = entry_of (terminals s (side_of side)) place
-entry_as side place (refused n) = Nothing
+entry_as side place (refused n) = None
 
-unfoldable pub entry_at : List ℕ → Side → ℕ → Entry
+unfoldable pub entry_at : List ℕ → Side → ℕ → Option Record
 entry_at b side place = entry_as side place (read b)

@@ -4,16 +4,7 @@
 mod parts;
 
 pub use parts::{open, record_at, record_in, section, shape_of};
-use refusals::Refusal;
-use terminal::Record;
 use trailer::Part;
-
-// The record at a place, or nothing where there is no such place.
-#[derive(Clone, Copy)]
-pub enum Entry {
-    Terminal(Record),
-    Nothing,
-}
 
 // L, p and q of a sound sheet, and what a search of it needs: work cells and column bytes.
 // All are 0 for a refused sheet.
@@ -32,11 +23,4 @@ pub struct Layout {
     pub shape: Shape,
     pub top: Part,
     pub bottom: Part,
-}
-
-// The answer of the sheet check, with the layout of a sound sheet.
-#[derive(Clone, Copy)]
-pub enum Opened {
-    Sound(Layout),
-    Refused(Refusal),
 }

@@ -5,26 +5,25 @@ ghost use Rattle.format.specs.Parts.{OwnPart};
 ghost use Rattle.soundness.specs.Check.{check_of};
 ghost use Rattle.sheet.specs.Parts.{cells_of, layout_of, opened_of, shape_of, section_at, section_of, entry_in, entry_at};
 
-use crate::{Entry, Layout, Opened, Shape};
+use crate::{Layout, Shape};
 use format::{Side, count_in, part_in, terminal_at};
-use refusals::Checked;
+use refusals::Refusal;
 use soundness::check;
+use terminal::Record;
 use trailer::{Part, read_trailer};
 
 // Checks the sheet, and gives all that is needed to read a sound one further: nothing of it asks for a second check.
-pub fn open(s: &[u8]) -> Opened
+#[tactic(auto, unfolding(crate::specs::Parts::opened_of))]
+pub fn open(s: &[u8]) -> Result<Layout, Refusal>
     ensures { result ≡ opened_of s.now }
 {
-    let checked = check(s);
-    match checked {
-        Checked::Sound => Opened::Sound(layout_of(s)),
-        Checked::Refused(why) => Opened::Refused(why),
-    }
+    check(s)?;
+    Ok(layout_of(s))
 }
 
 // The layout of a sheet that the check leaves.
 fn layout_of(s: &[u8]) -> Layout
-    requires { check_of s.now ≡ Checked.Sound }
+    requires { check_of s.now ≡ Ok tt }
     ensures { result ≡ layout_of s.now }
 {
     let t = read_trailer(s);
@@ -56,10 +55,9 @@ fn cells_needed(columns: usize, p: usize, q: usize) -> usize
 pub fn shape_of(s: &[u8]) -> Shape
     ensures { result ≡ shape_of s.now }
 {
-    let opened = open(s);
-    match opened {
-        Opened::Sound(layout) => layout.shape,
-        Opened::Refused(_) => Shape {
+    match open(s) {
+        Ok(layout) => layout.shape,
+        Err(_) => Shape {
             columns: 0,
             top: 0,
             bottom: 0,
@@ -83,30 +81,29 @@ fn of_side(top: Part, bottom: Part, side: Side) -> Part
 pub fn section(s: &[u8], side: Side) -> &[u8]
     ensures { OwnPart s.entry result (section_at s.now side) (section_of s.now side) }
 {
-    let opened = open(s);
-    match opened {
-        Opened::Sound(layout) => part_in(s, of_side(layout.top, layout.bottom, side)),
-        Opened::Refused(_) => &s[..0],
+    match open(s) {
+        Ok(layout) => part_in(s, of_side(layout.top, layout.bottom, side)),
+        Err(_) => &s[..0],
     }
 }
 
 // The record at a place, from 1, of a section.
-pub fn record_in(part: &[u8], place: usize) -> Entry
+pub fn record_in(part: &[u8], place: usize) -> Option<Record>
     ensures { result ≡ entry_in part.now place }
 {
     if place == 0 {
-        return Entry::Nothing;
+        return None;
     }
     let i = place - 1;
     if i < count_in(part) {
-        Entry::Terminal(terminal_at(part, i))
+        Some(terminal_at(part, i))
     } else {
-        Entry::Nothing
+        None
     }
 }
 
 // The record at a side and place, from 1, of a sheet.
-pub fn record_at(s: &[u8], side: Side, place: usize) -> Entry
+pub fn record_at(s: &[u8], side: Side, place: usize) -> Option<Record>
     ensures { result ≡ entry_at s.now side place }
 {
     record_in(section(s, side), place)

@@ -3,88 +3,58 @@
 #![tactic(auto)]
 
 use cases::{Command, low};
-use fixtures::{PAGE, Page, front};
+use fixtures::Page;
 use format::Side;
 use std::io::{self, Write};
 
 mod columns;
 mod show;
 
-fn ask<W: Write>(out: &mut W, s: &[u8], command: Command, name: &[u8]) -> io::Result<()> {
-    let word = command.word;
-    let a = command.numbers[0];
-    let b = command.numbers[1];
-    match word {
-        // a heading
-        b'h' => {
-            printing::text(out, name)?;
-            printing::text(out, b"\n")
-        }
+fn ask<W: Write>(out: &mut W, s: &[u8], command: Command) -> io::Result<()> {
+    let [a, b, c, d, _, _] = command.numbers;
+    match command.word {
+        "heading" => writeln!(out, "{}", command.name),
         // whether the sheet is sound
-        b'c' => printing::verdict(out, name, b": sound", s),
-        // its dimensions
-        b'd' => show::shape(out, s),
-        // its parts, the two sections
-        b'p' => {
+        "check" => printing::verdict(out, command.name, "sound", s),
+        "dimensions" => show::shape(out, s),
+        // the two sections
+        "parts" => {
             show::section(out, s, Side::Top)?;
             show::section(out, s, Side::Bottom)
         }
         // the records of each side from one place up to another
-        b'f' => {
+        "from" => {
             show::records(out, s, Side::Top, a, b)?;
             show::records(out, s, Side::Bottom, a, b)
         }
         // a walk of so many steps
-        b'w' => show::walk(out, s, a),
+        "walk" => show::walk(out, s, a),
         // the next step after so many terminals
-        b'n' => show::step_after(out, s, a),
+        "next" => show::step_after(out, s, a),
         // the record at a place inside a section, which is all of the bytes
-        b'i' => show::record_in(out, s, a),
+        "inside" => show::record_in(out, s, a),
         // the gap between two columns: the one before, this one, the range
-        b'g' => gap(out, command),
+        "gap" => columns::range(out, low(a), low(b), low(c), low(d)),
         // which columns are members of a set
-        b'm' => columns::allow_each(out, a),
+        "member" => columns::allow_each(out, a),
         // whether a set goes over a length
-        b'o' => columns::name_each(out, a),
+        "over" => columns::name_each(out, a),
         _ => Ok(()),
     }
 }
 
-fn gap<W: Write>(out: &mut W, command: Command) -> io::Result<()> {
-    let n = command.numbers;
-    columns::range(out, low(n[0]), low(n[1]), low(n[2]), low(n[3]))
-}
-
-// Runs one command on the sheet of n bytes at the start of the page; gives the sheet's length.
-fn step<W: Write>(
-    out: &mut W,
-    text: &[u8],
-    command: Command,
-    page: &mut Page,
-    n: usize,
-) -> io::Result<usize> {
-    let size = cases::build(page, n, command);
-    ask(out, front(page, size), command, cases::name(text, command))?;
-    Ok(size)
-}
-
-fn run<W: Write>(out: &mut W, text: &[u8], page: &mut Page) -> io::Result<()> {
-    let mut n: usize = 0;
-    let mut at: usize = 0;
-    while at < text.len() {
-        let command = cases::read(text, at);
-        n = step(out, text, command, page, n)?;
-        if command.next <= at {
-            return Ok(());
+fn run<W: Write>(out: &mut W, text: &str) -> io::Result<()> {
+    let mut page = Page::new();
+    for line in text.lines().filter(|line| !cases::is_remark(line)) {
+        for command in line.split("; ").map(cases::read) {
+            cases::build(&mut page, command);
+            ask(out, page.sheet(), command)?;
         }
-        at = command.next;
     }
     Ok(())
 }
 
 fn main(rt: HostRuntime) -> io::Result<()> {
-    let mut text = [0u8; 65536];
-    let n = input::read_full(&mut rt.reader(), &mut text)?;
-    let mut page = [0u8; PAGE];
-    run(&mut io::writer(&rt), &text[..n], &mut page)
+    let text = io::read_to_string(rt.alloc(), rt.reader())?;
+    run(&mut io::writer(&rt), &text)
 }

@@ -1,14 +1,7 @@
 -- Why the inner search comes to the best assignment of the two sections' sheet.
 -- Assumes nothing.
-use Prim.Native.Nat.{ℕ, zero, suc, ◌+◌, ◌-◌, ◌*◌, ◌≤◌, ◌<◌}
-use mathlib.Core.Path.{◌≡◌, refl, sym, ◌∙◌, ap, subst}
-use mathlib.Core.List.{List, ◌++◌}
-use mathlib.Core.Bool.{Bool, true, false, cond}
-use mathlib.Core.Logic.{◌⊎◌, inl, inr, ⊎_elim}
-use native.Mathlib.Omega.{arith}
-use native.Mathlib.Nat.{mul_assoc, mul-le-mul, mul-le-mul_right}
-use lib.ListN.{length, drop, replicate, length-append, length-replicate, length-drop, length-map}
-use lib.Dec.{eqb}
+use Rattle.std.proofs.Common.{ℕ, zero, suc, ◌+◌, ◌-◌, ◌*◌, ◌≤◌, ◌<◌, ◌≡◌, refl, sym, ◌∙◌, ap, subst, List, ◌++◌, Bool, true, false, cond, ◌⊎◌, inl, inr, ⊎_elim, arith, mul_assoc, mul-le-mul, mul-le-mul_right, length, drop, replicate, length-append, length-drop, eqb, Option, Some, None}
+use lib.ListN.{length-replicate, length-map}
 use borrow.Author.Tests.{eqb-false}
 use Rattle.channel.specs.Sheet.{Sheet, Sound}
 use Rattle.channel.specs.Density.{most_density}
@@ -19,8 +12,6 @@ use Rattle.channel.specs.Word.Letter.{top, bottom, both}
 use Rattle.sheet.specs.declared.Shape.{Shape}
 use Rattle.format.specs.Parts.{terminals_in}
 use Rattle.sheet.specs.Parts.{sheet_in}
-use Rattle.arrays.specs.Rules.{rule_words}
-use Rattle.arrays.specs.Loads.{load_bytes}
 use Rattle.load.specs.Cuts.{Cell, LoadsRead}
 use Rattle.nets.specs.Nets.{nets_in}
 use Rattle.load.proofs.LoadOf.{load_of_lem, cell-top, cell-bottom, cell-both}
@@ -31,8 +22,6 @@ use Rattle.reach.proofs.Bounds.{feasible_some, reach-held}
 use Rattle.reach.proofs.Least.{search-best, search-none}
 use Rattle.reach.proofs.Whole.{walk-pins}
 use Rattle.pass.specs.declared.Plan.{Plan}
-use Rattle.pass.specs.declared.Outcome.{Outcome}
-use Rattle.pass.specs.declared.Outcome.TheVariants as outcome
 use Rattle.rules.specs.Sides.{SideRules}
 use Rattle.pass.specs.Pass.{AsksPass, feasible_in, Rising, Placed, table_end}
 use Rattle.agreement.specs.Ready.{SheetLoads, Ready}
@@ -80,11 +69,10 @@ plan_sizes l p q h g hp hq =
     }
 
 pub plan_lies :
-    (work rules : List ℕ) (l p q : ℕ) → 1 ≤ l → l ≤ 64 → p ≤ l → q ≤ l → length rules ≡ rule_words
-    → (p + 1) * (q + 1) * ((l + 1) * (l + 1)) ≤ length work → AsksWalk work rules (plan_of l p q).grid p q
-plan_lies work rules l p q h g hp hq e room =
+    (work : List ℕ) (l p q : ℕ) → 1 ≤ l → l ≤ 64 → p ≤ l → q ≤ l
+    → (p + 1) * (q + 1) * ((l + 1) * (l + 1)) ≤ length work → AsksWalk work (plan_of l p q).grid p q
+plan_lies work l p q h g hp hq room =
     record {
-      rules = e;
       table =
           record {
             sizes = plan_sizes l p q h g hp hq;
@@ -123,7 +111,7 @@ module _ (tops bottoms : List ℕ) (n : Shape) (c w : ℕ) (asked : AsksSolve to
   -- more pins on a side than columns
   pub crowded_worked :
       (columns work : List ℕ) → (n.columns < n.top) ⊎ (n.columns < n.bottom)
-      → Worked tops bottoms n columns columns work work outcome.Nothing
+      → Worked tops bottoms n columns columns work work None
   crowded_worked columns work h =
       let e : best (sheet_in n.columns tops bottoms) ≡ none
       = crowded (sheet_in n.columns tops bottoms) asked.sound
@@ -154,9 +142,9 @@ module _ (tops bottoms : List ℕ) (n : Shape) (c w : ℕ) (asked : AsksSolve to
 -- what the passes come to is the best assignment
 pub came_best :
     (s : Sheet) (rules loads : List ℕ) (n : Plan) → Ready s rules loads n → (old new columns columns' : List ℕ)
-    → n.p + n.q ≤ length columns → (r : Outcome) → Placed rules loads n old new columns columns' r
+    → n.p + n.q ≤ length columns → (r : Option ℕ) → Placed rules loads n old new columns columns' r
     → (r ≡ outcome_of (best s)) × (columns' ≡ with_columns (best s) columns)
-came_best s rules loads n ready old new columns columns' room (outcome.Least d) placed =
+came_best s rules loads n ready old new columns columns' room (Some d) placed =
     let (least, written) = placed.came in
     let can : feasible s d ≡ true = sym (feasible-in s rules loads n ready d) ∙ least.holds in
     let e : best s ≡ found d (columns_of (walk_word s d))
@@ -167,7 +155,7 @@ came_best s rules loads n ready old new columns columns' room (outcome.Least d) 
           ∙ walk_columns_lem s rules loads n ready d can new old _ placed.table columns room
           ∙ rw e (ap (λ (k : ℕ). columns_of (walk_word s d) ++ drop k columns) (sym size)),
     )
-came_best s rules loads n ready old new columns columns' room outcome.Nothing placed =
+came_best s rules loads n ready old new columns columns' room None placed =
     let (never, same) = placed.came in
     let e : best s ≡ none = search-none s ready.sound (sym (feasible-in s rules loads n ready most_density) ∙ never) in
     (rw e, rw e same)
@@ -183,14 +171,12 @@ module _ (tops bottoms : List ℕ) (n : Shape) (columns work : List ℕ)
 
     -- what the passes ask
     pub place-asked :
-        length rules ≡ rule_words → length loads ≡ load_bytes
-        → AsksPass work rules loads plan × (plan.p + plan.q ≤ length columns) × Rising (feasible_in rules loads plan)
-    place-asked er el = (
+        AsksPass work plan × (plan.p + plan.q ≤ length columns) × Rising (feasible_in rules loads plan)
+    place-asked = (
       record {
-        sides = record { rules = er; loads = el };
         lies =
             rw planned
-            (plan_lies work rules n.columns n.top n.bottom asked.sound.columns.0 asked.sound.columns.1 hp hq er
+            (plan_lies work n.columns n.top n.bottom asked.sound.columns.0 asked.sound.columns.1 hp hq
             (rw (← cell-count tops bottoms n (length columns) (length work) asked) asked.cells));
         bottoms = rw planned hq;
         columns = rw planned asked.sound.columns.1;
@@ -201,7 +187,7 @@ module _ (tops bottoms : List ℕ) (n : Shape) (columns work : List ℕ)
 
     -- and what they come to
     pub placed-worked :
-        (columns' work' : List ℕ) (r : Outcome) → Placed rules loads plan work work' columns columns' r
+        (columns' work' : List ℕ) (r : Option ℕ) → Placed rules loads plan work work' columns columns' r
         → Worked tops bottoms n columns columns' work work' r
     placed-worked columns' work' r placed =
         let room : plan.p + plan.q ≤ length columns
@@ -224,7 +210,7 @@ cleared-length n old new h e = ap length e ∙ simp (length-append, length-repli
 
 -- the cells that were worked in, cleared
 pub worked_solved :
-    (tops bottoms : List ℕ) (n : Shape) (columns columns' work mid work' : List ℕ) (r : Outcome)
+    (tops bottoms : List ℕ) (n : Shape) (columns columns' work mid work' : List ℕ) (r : Option ℕ)
     → Worked tops bottoms n columns columns' work mid r → work' ≡ cleared n.cells mid
     → Solved tops bottoms n columns columns' work work' r
 worked_solved tops bottoms n columns columns' work mid work' r worked clears =

@@ -1,6 +1,6 @@
 -- What the inner search comes to on the two sections of a sound sheet.
 -- Assumes nothing.
-use Rattle.std.specs.Prelude.{ℕ, ◌+◌, ◌-◌, ◌*◌, ◌≤◌, ◌≡◌, List, cond, length, drop, eqb}
+use Rattle.std.specs.Prelude.{ℕ, ◌+◌, ◌-◌, ◌*◌, ◌≤◌, ◌≡◌, List, Option, Some, None, cond, length, drop, eqb}
 use Rattle.channel.specs.Sheet.{Sound}
 use Rattle.channel.specs.Best.{Found, best}
 use Rattle.channel.specs.Best.Found.{none, found}
@@ -8,8 +8,6 @@ use Rattle.sheet.specs.declared.Shape.{Shape}
 use Rattle.format.specs.Parts.{terminals_in}
 use Rattle.sheet.specs.Parts.{sheet_in, shape}
 use Rattle.pass.specs.declared.Plan.{Plan}
-use Rattle.pass.specs.declared.Outcome.{Outcome}
-use Rattle.pass.specs.declared.Outcome.TheVariants as outcome
 use Rattle.solve.specs.Buffers.{with_columns, cleared}
 
 -- the measures of the table for p top and q bottom pins in l columns
@@ -35,19 +33,20 @@ pub record AsksSolve (top bottom : List ℕ) (n : Shape) (columns work : ℕ) : 
   pub pins : n.pins ≤ columns
   pub cells : n.cells ≤ work
 
-abbrev pub outcome_of : Found → Outcome
-outcome_of none = outcome.Nothing
-outcome_of (found d cs) = outcome.Least d
+-- the least density, if there is one
+abbrev pub outcome_of : Found → Option ℕ
+outcome_of none = None
+outcome_of (found d cs) = Some d
 
 -- the best assignment is written, if there is one, and only the cells needed are worked in: what stands behind them is as it was
-pub record Worked (top bottom : List ℕ) (n : Shape) (columns columns' work work' : List ℕ) (r : Outcome) : Type 0 where
+pub record Worked (top bottom : List ℕ) (n : Shape) (columns columns' work work' : List ℕ) (r : Option ℕ) : Type 0 where
   pub outcome : r ≡ outcome_of (best (sheet_in n.columns top bottom))
   pub written : columns' ≡ with_columns (best (sheet_in n.columns top bottom)) columns
   pub kept : length work' ≡ length work
   pub behind : drop n.cells work' ≡ drop n.cells work
 
 -- the same, with the cells needed left 0
-pub record Solved (top bottom : List ℕ) (n : Shape) (columns columns' work work' : List ℕ) (r : Outcome) : Type 0 where
+pub record Solved (top bottom : List ℕ) (n : Shape) (columns columns' work work' : List ℕ) (r : Option ℕ) : Type 0 where
   pub outcome : r ≡ outcome_of (best (sheet_in n.columns top bottom))
   pub written : columns' ≡ with_columns (best (sheet_in n.columns top bottom)) columns
   pub cells : work' ≡ cleared n.cells work

@@ -1,11 +1,12 @@
 // The search over the two sections of a sound sheet.
 #![tactic(auto)]
 
-ghost use Rattle.std.specs.Prelude.{◌+◌, ◌-◌, ◌≤◌, ◌≡◌, ◌++◌, cond, length, drop, replicate, eqb};
+ghost use Rattle.std.specs.Prelude.{◌+◌, ◌-◌, ◌≤◌, ◌≡◌, cond, length, eqb};
 ghost use Rattle.solve.specs.Solved.{plan_of, AsksSolve, Worked, Solved};
 
+use arrays::{LOADS, LoadTable, RULES, RuleTable};
 use entry::Grid;
-use pass::{Outcome, Plan, place};
+use pass::{Plan, place};
 use rules::read_rules;
 use sheet::Shape;
 
@@ -14,10 +15,7 @@ fn rows_of(l: usize, p: usize) -> usize
     requires { (l ≤ 64) × (p ≤ l) }
     ensures { result ≡ cond (eqb p 0) 1 (l - p + 1) }
 {
-    if p == 0 {
-        return 1;
-    }
-    l - p + 1
+    if p == 0 { 1 } else { l - p + 1 }
 }
 
 // The measures of the table for p top and q bottom pins in l columns.
@@ -36,7 +34,7 @@ fn make_plan(l: usize, p: usize, q: usize) -> Plan
 }
 
 // Writes the columns of the best assignment, if there is one. What it leaves in the cells that it works in is for `solve` to clear.
-fn find(top: &[u8], bottom: &[u8], shape: Shape, columns: &mut [u8], work: &mut [u16]) -> Outcome
+fn find(top: &[u8], bottom: &[u8], shape: Shape, columns: &mut [u8], work: &mut [u16]) -> Option<u8>
     requires { AsksSolve top.now bottom.now shape (length columns.old) (length work.old) }
     ensures { Worked top.now bottom.now shape
         columns.old columns.new work.old work.new result }
@@ -44,31 +42,17 @@ fn find(top: &[u8], bottom: &[u8], shape: Shape, columns: &mut [u8], work: &mut 
     let l = shape.columns;
     let p = shape.top;
     let q = shape.bottom;
-    if l < p {
-        return Outcome::Nothing;
-    }
-    if l < q {
-        return Outcome::Nothing;
+    if l < p || l < q {
+        return None;
     }
     let plan = make_plan(l, p, q);
-    let mut rules = [0u64; arrays::RULES];
+    // made in place: a function that gives a table copies it
+    let mut rules = RuleTable { words: [0; RULES] };
     read_rules(top, &mut rules, 0);
     read_rules(bottom, &mut rules, 1);
-    let mut loads = [0u8; arrays::LOADS];
+    let mut loads = LoadTable { bytes: [0; LOADS] };
     load::read_loads(top, bottom, &mut loads);
     place(work, &rules, &loads, plan, columns)
-}
-
-// Sets the first n cells to 0.
-fn clear(work: &mut [u16], n: usize)
-    requires { n ≤ length work.old }
-    ensures { work.new ≡ replicate n 0 ++ drop n work.old }
-{
-    let mut i = 0;
-    while i < n {
-        work[i] = 0;
-        i += 1;
-    }
 }
 
 // Writes the columns of the best assignment, if there is one, and leaves the cells that this takes 0.
@@ -78,12 +62,12 @@ pub fn solve(
     shape: Shape,
     columns: &mut [u8],
     work: &mut [u16],
-) -> Outcome
+) -> Option<u8>
     requires { AsksSolve top.now bottom.now shape (length columns.old) (length work.old) }
     ensures { Solved top.now bottom.now shape
         columns.old columns.new work.old work.new result }
 {
     let outcome = find(top, bottom, shape, columns, work);
-    clear(work, shape.cells);
+    work[..shape.cells].fill(0);
     outcome
 }

@@ -1,11 +1,10 @@
 -- What a sheet's bytes say: a sheet, or the number of the refusal (document 01, "The sheet").
 -- Assumes nothing.
-use Rattle.std.specs.Prelude.{ℕ, List}
+use Rattle.std.specs.Prelude.{ℕ, List, Result, Ok, Err}
 use Rattle.channel.specs.Sheet.{Sheet, sheet_with}
 use Rattle.refusals.specs.Refusals.{number_of}
 use Rattle.trailer.specs.Trailer.{trailer_of}
-use Rattle.refusals.specs.declared.Checked.{Checked}
-use Rattle.refusals.specs.declared.Checked.TheVariants.{Sound, Refused}
+use Rattle.refusals.specs.declared.Refusal.{Refusal}
 use Rattle.soundness.specs.Check.{terminals_of, check_of}
 
 pub data Read : Type 0 where
@@ -17,9 +16,9 @@ unfoldable pub sheet_of : List ℕ → Sheet
 sheet_of b = sheet_with (trailer_of b).columns (terminals_of b (trailer_of b).top) (terminals_of b (trailer_of b).bottom)
 
 -- a sheet that is sound, or the number of the first refusal that applies
-abbrev pub read_as : Sheet → Checked → Read
-read_as s Sound = sound s
-read_as s (Refused why) = refused (number_of why)
+abbrev pub read_as : Sheet → Result Unit Refusal → Read
+read_as s (Ok tt) = sound s
+read_as s (Err why) = refused (number_of why)
 
 unfoldable pub read : List ℕ → Read
 read b = read_as (sheet_of b) (check_of b)

@@ -13,34 +13,27 @@ use terminal::{Record, names_above};
 pub fn check_side(section: &[u8], columns: usize) -> Checked
     ensures { result ≡ side_check columns true (terminals_in section.now) }
 {
-    let count = count_in(section);
-    let mut i = 0;
-    while i < count {
-        let answer = check_record(terminal_at(section, i), i == 0, columns);
-        let Checked::Sound = answer else {
-            return answer;
-        };
-        i += 1;
+    for i in 0..count_in(section) {
+        check_record(terminal_at(section, i), i == 0, columns)?;
     }
-    Checked::Sound
+    Ok(())
 }
 
 // One terminal.
+#[tactic(auto, unfolding(crate::specs::Check::terminal_check))]
 fn check_record(r: Record, first: bool, columns: usize) -> Checked
     ensures { result ≡ terminal_check columns first (terminal_of r) }
 {
     if r.net == 0 {
-        return Checked::Refused(Refusal::Net);
+        return Err(Refusal::Net);
     }
-    if keeps_rule(r, first) {
-        if names_above(r.allowed, columns) {
-            Checked::Refused(Refusal::Beyond)
-        } else {
-            Checked::Sound
-        }
-    } else {
-        Checked::Refused(Refusal::Distance)
+    if !keeps_rule(r, first) {
+        return Err(Refusal::Distance);
     }
+    if names_above(r.allowed, columns) {
+        return Err(Refusal::Beyond);
+    }
+    Ok(())
 }
 
 // Whether a distance pair keeps its rule.

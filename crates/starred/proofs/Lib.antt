@@ -1,2 +1,3 @@
 pub mod Table
 pub mod Pairs
+pub mod Ranges

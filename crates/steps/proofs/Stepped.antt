@@ -1,13 +1,7 @@
 -- Laws of the steps from a set: one after the other, by all numbers from some number on, and by a run.
 -- Assumes nothing.
-use Prim.Native.Nat.{ℕ, zero, suc, ◌+◌, ◌-◌, ◌*◌, ◌/◌, ◌%◌, ◌^◌, ◌≤◌, ◌<◌}
-use mathlib.Core.Path.{◌≡◌, refl, sym, ◌∙◌, ap, ap₂}
-use mathlib.Core.Bool.{Bool, true, false, ◌&&◌, ◌||◌, and-false, or-true, or_assoc, and-eq-true_iff}
-use mathlib.Core.Logic.{◌⊎◌, inl, inr}
-use native.Mathlib.Omega.{arith}
-use lib.Dec.{leb, ltb}
-use lib.Bits.{bit_or}
-use borrow.Author.Tests.{leb-true, leb-false, le-leb, lt-ltb, ltb-true, ltb-false, eq-eqb, ne_eqb}
+use Rattle.std.proofs.Common.{ℕ, zero, suc, ◌+◌, ◌-◌, ◌*◌, ◌/◌, ◌%◌, ◌^◌, ◌≤◌, ◌<◌, ◌≡◌, refl, sym, ◌∙◌, ap, ap₂, Bool, true, false, ◌&&◌, ◌||◌, ◌⊎◌, inl, inr, arith, leb, ltb, bit_or, leb-true, leb-false, le-leb, lt-ltb, ltb-true, ltb-false, eq-eqb, ne_eqb}
+use mathlib.Core.Bool.{and-false, or-true, or_assoc, and-eq-true_iff}
 use Rattle.channel.specs.Below.{any_below}
 use Rattle.channel.proofs.Below.{any_below-from, any_below_to, any_below-none}
 use Rattle.bits.specs.Bits.{bit_of}

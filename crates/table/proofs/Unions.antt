@@ -1,16 +1,12 @@
 -- Laws of the loops that collect numbers.
 -- Assumes nothing.
-use Prim.Native.Nat.{ℕ, suc, ◌+◌, ◌^◌, ◌≤◌, ◌<◌}
-use mathlib.Core.Path.{◌≡◌, refl, sym, ◌∙◌, ap}
-use mathlib.Core.Bool.{Bool, true, false, ◌&&◌, ◌||◌, and-false}
-use native.Mathlib.Omega.{arith}
-use native.Mathlib.Numerals.{add-one}
-use lib.Dec.{leb, ltb, eqb}
+use Rattle.std.proofs.Common.{ℕ, suc, ◌+◌, ◌^◌, ◌≤◌, ◌<◌, ◌≡◌, refl, sym, ◌∙◌, ap, Bool, true, false, ◌&&◌, ◌||◌, arith, add-one, leb, ltb, eqb, ltb-true, ltb-false, lt-ltb, le-ltb, le-leb, eqb-true}
+use mathlib.Core.Bool.{and-false}
 use Rattle.channel.specs.Below.{any_below}
 use Rattle.channel.proofs.Below.{any_below-from, any_below-none}
 use Rattle.bits.specs.Bits.{bit_of, in_word}
 use Rattle.bits.proofs.Laws.{bit_zero, some_bit, word_none, word-from}
-use borrow.Author.Tests.{ltb-true, ltb-false, lt-ltb, le-ltb, le-leb, lt-leb, eqb-true, eqb-false}
+use borrow.Author.Tests.{lt-leb, eqb-false}
 
 -- the numbers k up to y of which f holds, where y is taken, and where it is not
 module _ (f : ℕ → Bool) (y k : ℕ) where

@@ -23,14 +23,12 @@ pub fn meets(
     ensures { result ≡ meeting work.now grid i j low high next by mask }
 {
     let base = i * grid.stride + j * grid.size;
-    let mut x = low;
-    while x <= high {
+    for x in low..high + 1 {
         if bit(by, next - x) {
             if both(read_word(work, base + 4 * x), mask) != 0 {
                 return true;
             }
         }
-        x += 1;
     }
     false
 }
@@ -41,12 +39,10 @@ pub fn back(high: usize, next: usize, by: u64) -> u64
     ensures { (y : ℕ) → y < 64 → bit_of result y ≡ (leb y high && bit_of by (next - y)) }
 {
     let mut found: u64 = 0;
-    let mut y = 0;
-    while y <= high {
+    for y in 0..=high {
         if bit(by, next - y) {
             found = either(single(y), found);
         }
-        y += 1;
     }
     found
 }

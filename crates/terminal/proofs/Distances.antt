@@ -1,15 +1,8 @@
 -- Sixteen bits hold the difference of two columns, and that less a bound, so the machine's signed differences and tests are the
 -- definition's.
 -- Assumes nothing.
-use Prim.Native.Nat.{ℕ, zero, suc, ◌+◌, ◌-◌, ◌≤◌, ◌<◌}
-use mathlib.Core.Path.{◌≡◌, sym, ◌∙◌, ap₂, subst}
-use mathlib.Core.Bool.{Bool, true, false, cond}
-use native.Mathlib.Omega.{arith}
-use lib.Dec.{ltb}
-use lib.IntN.{ℤ, pos, negsuc, ◌-ℤ◌}
+use Rattle.std.proofs.Common.{◌≡◌, ℕ, zero, suc, ◌+◌, ◌-◌, ◌<◌, ◌≤◌, Bool, true, false, cond, ltb, ℤ, pos, negsuc, ◌-ℤ◌, sym, ◌∙◌, subst, ap₂, arith, w16, SFits, to_z, of_z}
 use lib.Signed.{lt_z, mag}
-use mir.Syntax.{w16}
-use mir.Val.{SFits, to_z, of_z}
 use mir.ValLaws.{to_z-of_z}
 use Rattle.channel.specs.Distance.{distance, amount}
 

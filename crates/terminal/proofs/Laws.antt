@@ -1,13 +1,8 @@
 -- What a caller may use of the distance test: the bits of its answer are 0 exactly in range.
 -- Assumes nothing.
-use Prim.Native.Nat.{ℕ, ◌<◌, ◌^◌}
-use mathlib.Core.Path.{◌≡◌, refl, sym, ◌∙◌, ap}
-use mathlib.Core.Bool.{Bool, true, false}
-use lib.IntN.{ℤ, pos}
+use Rattle.std.proofs.Common.{◌≡◌, ℕ, ◌^◌, ◌<◌, Bool, true, false, ℤ, pos, sym, refl, ap, ◌∙◌, to_z-of_z, w16, to_z, of_z}
 use lib.Signed.{mag}
-use mir.Syntax.{w16}
-use mir.Val.{hbits, to_z, of_z}
-use mir.Facts.{to_z-of_z}
+use mir.Val.{hbits}
 use Rattle.channel.specs.Assignment.{in_range}
 use Rattle.channel.specs.Distance.{amount}
 use Rattle.channel.proofs.Distances.{amount_says}

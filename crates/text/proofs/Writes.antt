@@ -1,14 +1,10 @@
 -- Laws of texts written one after the other.
 -- Assumes nothing.
-use Prim.Native.Nat.{ℕ, suc, ◌+◌, ◌-◌, ◌/◌, ◌%◌, ◌≤◌, ◌<◌}
-use mathlib.Core.Path.{◌≡◌, refl, sym, ◌∙◌, ap, subst}
-use mathlib.Core.List.{List, [], ◌∷◌, ◌++◌}
-use native.Mathlib.Omega.{arith}
-use native.Mathlib.Nat.{add-zero}
-use lib.ListN.{length, set, length-append}
+use Rattle.std.proofs.Common.{◌≡◌, ℕ, suc, ◌+◌, ◌-◌, ◌/◌, ◌%◌, ◌<◌, ◌≤◌, List, [], ◌∷◌, ◌++◌, length, set, sym, refl, ap, ◌∙◌, subst, add-zero, arith, length-append}
 use lib.Seq.{sets, length-sets}
 use Rattle.text.specs.Digits.{digits}
-use Rattle.text.specs.Writing.{Wrote}
+use Rattle.text.specs.Writing.{Wrote, Writes}
+use Rattle.text.specs.declared.Writer.{Writer}
 use Rattle.text.proofs.Numbers.{digits_one, digits_more}
 
 pub wrote_nothing : (old : List ℕ) (at : ℕ) → Wrote old at [] old at
@@ -37,6 +33,16 @@ after {old} {t} {mid} {u} {new} {at} v w =
       bytes = w.bytes ∙ rw (v.bytes, v.place) (sets_append old t u at);
       place = w.place ∙ rw (v.place, length-append t u) (omega arith);
     }
+
+-- the same of writers
+pub written_nothing : {a : Writer} → Writes a a []
+written_nothing = record { wrote = wrote_nothing _ _; buffer = refl; room = refl }
+
+pub behind : {a b c : Writer} {t u : List ℕ} → Writes a b t → Writes b c u → Writes a c (t ++ u)
+behind v w = record { wrote = after v.wrote w.wrote; buffer = w.buffer ∙ v.buffer; room = w.room ∙ v.room }
+
+pub same_written : {a b : Writer} {t u : List ℕ} → t ≡ u → Writes a b t → Writes a b u
+same_written e w = record { wrote = same_text e w.wrote; buffer = w.buffer; room = w.room }
 
 -- a number's only digit, and its last digit behind the others
 module _ {old : List ℕ} {at : ℕ} {new : List ℕ} {end : ℕ} (n most : ℕ) (digit : ℕ) (some : most ≡ 0 → ⊥) where

@@ -1,44 +1,60 @@
-// Words and numbers written into a buffer from a place on; each function gives the place behind the text.
+// Words and numbers written into a buffer, each behind the one before.
 #![tactic(auto)]
 
 ghost use Rattle.std.specs.Prelude.{◌≡◌, ◌∷◌, [], ◌+◌, ◌≤◌, ◌<◌, length};
 ghost use Rattle.text.specs.Digits.{digits, field};
-ghost use Rattle.text.specs.Writing.{Wrote};
+ghost use Rattle.text.specs.Writing.{Writes};
 
-pub fn put_byte(out: &mut [u8], at: usize, byte: u8) -> usize
-    requires { at < length out.old }
-    ensures { Wrote out.old at (byte ∷ []) out.new result }
-{
-    out[at] = byte;
-    at + 1
+// A buffer, and the place in it behind what is written.
+#[derive(Drop)]
+pub struct Writer<'a> {
+    pub out: &'a mut [u8],
+    pub end: usize,
 }
 
-pub fn put_text(out: &mut [u8], at: usize, text: &[u8]) -> usize
-    requires { at + length text.now ≤ length out.old }
-    ensures { Wrote out.old at text.now out.new result }
-{
-    let mut end = at;
-    let mut k = 0;
-    while k < text.len() {
-        end = put_byte(out, end, text[k]);
-        k += 1;
+impl<'a> Writer<'a> {
+    pub fn put_byte(&mut self, byte: u8)
+        requires { self.old.end < length self.old.out.now }
+        ensures { Writes self.old self.new (byte ∷ []) }
+    {
+        self.out[self.end] = byte;
+        self.end += 1;
     }
-    end
-}
 
-// The decimal digits of a number, `most` of them at most.
-pub fn put_digits(out: &mut [u8], at: usize, n: usize, most: usize) -> usize
-    requires { at + most ≤ length out.old }
-    ensures { Wrote out.old at (digits most n) out.new result }
-{
-    if most == 0 {
-        return at;
+    pub fn put_text(&mut self, text: &[u8])
+        requires { self.old.end + length text.now ≤ length self.old.out.now }
+        ensures { Writes self.old self.new text.now }
+    {
+        for byte in text {
+            self.put_byte(*byte);
+        }
     }
-    if n < 10 {
-        return put_byte(out, at, digit(n));
+
+    // The decimal digits of a number, `most` of them at most.
+    pub fn put_digits(&mut self, n: usize, most: usize)
+        requires { self.old.end + most ≤ length self.old.out.now }
+        ensures { Writes self.old self.new (digits most n) }
+    {
+        if most == 0 {
+            return;
+        }
+        if n < 10 {
+            self.put_byte(digit(n));
+            return;
+        }
+        self.put_digits(n / 10, most - 1);
+        self.put_byte(digit(n % 10));
     }
-    let end = put_digits(out, at, n / 10, most - 1);
-    put_byte(out, end, digit(n % 10))
+
+    // A name and its number, of `most` digits at most.
+    pub fn put_field(&mut self, name: &[u8], n: usize, most: usize)
+        requires { self.old.end + length name.now + most ≤ length self.old.out.now }
+        ensures wrote { Writes self.old self.new (field most name.now n) }
+        ensures upper_bound { self.new.end ≤ self.old.end + length name.now + most }
+    {
+        self.put_text(name);
+        self.put_digits(n, most);
+    }
 }
 
 fn digit(n: usize) -> u8
@@ -46,14 +62,4 @@ fn digit(n: usize) -> u8
     ensures { result ≡ 48 + n }
 {
     48 + (n as u8)
-}
-
-// A name and its number, of `most` digits at most.
-pub fn put_field(out: &mut [u8], at: usize, name: &[u8], n: usize, most: usize) -> usize
-    requires { at + length name.now + most ≤ length out.old }
-    ensures wrote { Wrote out.old at (field most name.now n) out.new result }
-    ensures upper_bound { result ≤ at + length name.now + most }
-{
-    let end = put_text(out, at, name);
-    put_digits(out, end, n, most)
 }

@@ -1,73 +1,69 @@
 // The answer about the tracks of a column list, with its numbers by the refusal list, and the spans that come with it.
 #![tactic(auto)]
 
-ghost use Rattle.std.specs.Prelude.{◌≡◌};
-ghost use Rattle.tracked.specs.Numbers.{number_of, count_of, tracks_of, amount_of};
+ghost use Rattle.std.specs.Prelude.{◌≡◌, ◌≤◌};
+ghost use Rattle.tracked.specs.Numbers.{track_number, track_amount};
 
 use left_edge::Span;
-use refusals::ListRefusal;
+use refusals::{HasAmount, ListRefusal, Reason};
 
-// How many nets there are and how many tracks they take, or why they get none: the list is no assignment, a column has pins of two nets, or
-// the array has fewer records than there are nets.
-#[derive(Clone, Copy)]
-pub enum Tracked {
-    Tracks(usize, u16),
-    Refused(ListRefusal),
+// How many nets there are, and how many tracks they take.
+#[derive(Clone, Copy, Debug, PartialEq, Eq)]
+pub struct Counts {
+    pub nets: usize,
+    pub tracks: u16,
+}
+
+// Why the nets get no tracks: the list is no assignment, a column has pins of two nets, or the array has fewer records than there are nets.
+#[derive(Clone, Copy, Debug, PartialEq, Eq)]
+pub enum TrackRefusal {
+    Listed(ListRefusal),
     TwoNets,
     SpanBuffer,
 }
 
-// The answer, with the spans of the nets in front of an array; with a refusal there are none.
+// The numbers of nets and tracks, or why there are none.
+pub type Tracked = Result<Counts, TrackRefusal>;
+
+// The numbers of nets and tracks, with the spans of the nets in front of an array.
 #[derive(Clone, Copy)]
 pub struct Routed {
-    pub answer: Tracked,
+    pub counts: Counts,
     pub spans: [Span; 128],
+    ghost room: { counts.nets ≤ 128 },
 }
 
-// The number of a refusal; 0 with tracks.
-pub fn number_of(answer: Tracked) -> u8
-    ensures { result ≡ number_of answer }
-{
-    match answer {
-        Tracked::Tracks(_, _) => 0,
-        Tracked::Refused(why) => refusals::list_number(why),
-        Tracked::TwoNets => 18,
-        Tracked::SpanBuffer => 9,
+impl Reason for TrackRefusal {
+    ghost number = { track_number };
+
+    fn number(self) -> u8 {
+        match self {
+            TrackRefusal::Listed(refusal) => refusal.number(),
+            TrackRefusal::TwoNets => 18,
+            TrackRefusal::SpanBuffer => 9,
+        }
     }
 }
 
-// How many nets have a span; 0 with a refusal.
-pub fn count_of(answer: Tracked) -> usize
-    ensures { result ≡ count_of answer }
-{
-    match answer {
-        Tracked::Tracks(count, _) => count,
-        Tracked::Refused(_) => 0,
-        Tracked::TwoNets => 0,
-        Tracked::SpanBuffer => 0,
+impl HasAmount for TrackRefusal {
+    ghost amount = { track_amount };
+
+    fn amount(self) -> i16 {
+        match self {
+            TrackRefusal::Listed(refusal) => refusal.amount(),
+            TrackRefusal::TwoNets => 0,
+            TrackRefusal::SpanBuffer => 0,
+        }
     }
 }
 
-// How many tracks they take; 0 with a refusal.
-pub fn tracks_of(answer: Tracked) -> u16
-    ensures { result ≡ tracks_of answer }
-{
-    match answer {
-        Tracked::Tracks(_, tracks) => tracks,
-        Tracked::Refused(_) => 0,
-        Tracked::TwoNets => 0,
-        Tracked::SpanBuffer => 0,
-    }
-}
+// Tracks are refused with their list.
+impl From<ListRefusal> for TrackRefusal {
+    ghost use Rattle.tracked.specs.declared.TrackRefusal.TheVariants.{Listed};
 
-// The columns by which a distance is out of range; 0 with tracks and with any other refusal.
-pub fn amount_of(answer: Tracked) -> i16
-    ensures { result ≡ amount_of answer }
-{
-    match answer {
-        Tracked::Tracks(_, _) => 0,
-        Tracked::Refused(why) => refusals::list_amount(why),
-        Tracked::TwoNets => 0,
-        Tracked::SpanBuffer => 0,
+    ghost from_gives = { λ why answer. answer ≡ Listed why };
+
+    fn from(why: ListRefusal) -> Self {
+        TrackRefusal::Listed(why)
     }
 }

@@ -1,5 +1,9 @@
 -- Which answer about tracks is due.
 -- Assumes nothing.
+use Rattle.std.proofs.Common.{Result}
+use Rattle.std.proofs.Common.{Ok}
+use Rattle.std.proofs.Common.{Err}
+use Rattle.tracked.specs.declared.TrackRefusal.{TrackRefusal}
 use Prim.Native.Nat.{ℕ, ◌≤◌, ◌<◌}
 use mathlib.Core.Path.{◌≡◌, sym, ap, ◌∙◌}
 use mathlib.Core.List.{List, ◌++◌, map}
@@ -20,22 +24,23 @@ use Rattle.left_edge.proofs.Routes.{spans-length}
 use Rattle.order.specs.Keys.{Columns, key_in, keys_by_left, interval_at}
 use Rattle.order.proofs.Pins.{pins_of_inside}
 use Rattle.order.proofs.Keys.{Number, intervals-ordered, keys-begin}
-use Rattle.tracked.specs.declared.Tracked.TheVariants.{Tracks, TwoNets, SpanBuffer}
+use Rattle.tracked.specs.declared.TrackRefusal.TheVariants.{TwoNets, SpanBuffer}
 use Rattle.tracked.specs.declared.Routed.{Routed}
-use Rattle.tracks.specs.Answer.{answer_for, no_spans, Gives}
+use Rattle.tracked.specs.Routed.{no_spans, counts_in, array_in}
+use Rattle.tracks.specs.Answer.{answer_for, Gives}
 
-module _ (ps : List Pin) (room : ℕ) (xs : List Span) (r : Routed) where
-  pub gives_two_nets : two_nets ps ≡ true → (r.answer ≡ TwoNets) × (r.spans ≡ no_spans) → Gives (answer_for ps room xs) xs r
+module _ (ps : List Pin) (room : ℕ) (xs : List Span) (r : Result Routed TrackRefusal) where
+  pub gives_two_nets : two_nets ps ≡ true → (counts_in r ≡ Err TwoNets) × (array_in r ≡ no_spans) → Gives (answer_for ps room xs) xs r
   unfolding answer_for
   gives_two_nets two e = rw two e
 
   module _ (one : two_nets ps ≡ false) where
-    pub gives-short : room < length xs → (r.answer ≡ SpanBuffer) × (r.spans ≡ no_spans) → Gives (answer_for ps room xs) xs r
+    pub gives-short : room < length xs → (counts_in r ≡ Err SpanBuffer) × (array_in r ≡ no_spans) → Gives (answer_for ps room xs) xs r
     unfolding answer_for
     gives-short h e = rw (one, lt-ltb room (length xs) h) e
 
     pub gives-tracks :
-        length xs ≤ room → r.answer ≡ Tracks (length xs) (greatest xs) → r.spans ≡ xs ++ drop (length xs) no_spans
+        length xs ≤ room → counts_in r ≡ Ok (record { nets = length xs; tracks = greatest xs }) → array_in r ≡ xs ++ drop (length xs) no_spans
         → Gives (answer_for ps room xs) xs r
     unfolding answer_for
     gives-tracks h e spans = rw (one, le-ltb room (length xs) h) (e, rw (take-length xs) spans)

@@ -13,7 +13,7 @@ use Rattle.left_edge.specs.Method.{passed, track_on, step, span_on, left_edge_fr
 use Rattle.left_edge.proofs.Lists.{each_image}
 use Rattle.order.specs.Keys.{interval_at}
 use Rattle.order.proofs.Written.{written_next, written_all}
-use Rattle.tracks.specs.Answer.{no_spans}
+use Rattle.tracked.specs.Routed.{no_spans}
 use Rattle.tracks.proofs.Free.{Unused, unused_zeros, passed_unused, step_unused, length-step, edge_zeros}
 
 -- an interval of a key that begins in column 1 or right of it

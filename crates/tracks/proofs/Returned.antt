@@ -1,5 +1,6 @@
 -- What a call for tracks returned and left: the number and the amount of the list's check, 18 or 9, or the spans of the nets.
 -- Assumes nothing.
+use Rattle.std.proofs.Common.{Result, Ok, Err}
 use Prim.Native.Nat.{ℕ}
 use mathlib.Core.Path.{◌≡◌, refl, sym, ◌∙◌, ap, subst}
 use mathlib.Core.List.{List, ◌++◌}
@@ -21,16 +22,17 @@ use Rattle.left_edge.specs.declared.Span.{Span}
 use Rattle.left_edge.specs.Method.{greatest}
 use Rattle.left_edge.specs.Spans.{spans_of, two_nets}
 use Rattle.left_edge.proofs.Routes.{span-ends, nets-length, assignment_routes, assignment_tracks}
-use Rattle.list.specs.declared.Listed.{Listed}
-use Rattle.list.specs.declared.Listed.TheVariants as listed
 use Rattle.list.specs.Answer.{listed_of}
 use Rattle.list.specs.Returned as list
 use Rattle.list.proofs.Returned.{one_list}
 use Rattle.list.proofs.Laws.{assigns}
-use Rattle.tracked.specs.declared.Tracked.{Tracked}
-use Rattle.tracked.specs.declared.Tracked.TheVariants.{Tracks, Refused, TwoNets, SpanBuffer}
+use Rattle.tracked.specs.declared.Counts.{Counts}
+use Rattle.tracked.specs.declared.TrackRefusal.{TrackRefusal}
+use Rattle.tracked.specs.declared.TrackRefusal.TheVariants.{Listed, TwoNets, SpanBuffer}
 use Rattle.tracked.specs.Numbers.{number_of, count_of, tracks_of, amount_of}
 use Rattle.tracks.specs.Answer.{answer_for, tracked_as, tracked_of, spans_with, spans_after}
+use Rattle.sheet.specs.declared.Layout.{Layout}
+use Rattle.refusals.specs.declared.ListRefusal.{ListRefusal}
 use Rattle.tracks.specs.Returned.{Decides, Returned}
 
 -- of an assignment of a sound sheet
@@ -42,19 +44,19 @@ module _ (s : Sheet) (is : Sound s) (cs : List ℕ) (ok : is_assignment s cs ≡
   xs = spans_of s cs
 
   decided :
-      (answer : Tracked) → answer ≡ answer_for ps (length spans) xs → spans' ≡ spans_with answer xs ++ drop (count_of answer) spans
+      (answer : Result Counts TrackRefusal) → answer ≡ answer_for ps (length spans) xs → spans' ≡ spans_with answer xs ++ drop (count_of answer) spans
       → Decides s cs spans spans' (number_of answer) (count_of answer) (tracks_of answer)
   unfolding answer_for
   decided answer e after =
-      subst (λ (a : Tracked). Decides s cs spans spans' (number_of a) (count_of a) (tracks_of a)) (sym e)
+      subst (λ (a : Result Counts TrackRefusal). Decides s cs spans spans' (number_of a) (count_of a) (tracks_of a)) (sym e)
       (go (two_nets ps) refl (ltb (length spans) (length xs)) refl
-      (after ∙ ap (λ (a : Tracked). spans_with a xs ++ drop (count_of a) spans) e))
+      (after ∙ ap (λ (a : Result Counts TrackRefusal). spans_with a xs ++ drop (count_of a) spans) e))
     where
       count : length xs ≡ length (nets_of s)
       count = nets-length s cs
 
       go : (a : Bool) → two_nets ps ≡ a → (b : Bool) → ltb (length spans) (length xs) ≡ b
-          → let due : Tracked = cond a TwoNets (cond b SpanBuffer (Tracks (length xs) (greatest xs))) in
+          → let due : Result Counts TrackRefusal = cond a (Err TwoNets) (cond b (Err SpanBuffer) (Ok (record { nets = length xs; tracks = greatest xs }))) in
           spans' ≡ spans_with due xs ++ drop (count_of due) spans → Decides s cs spans spans' (number_of due) (count_of due) (tracks_of due)
       go true e b d left = record {
         two = λ _. refl;
@@ -90,43 +92,43 @@ module _ (s : Sheet) (is : Sound s) (cs : List ℕ) (ok : is_assignment s cs ≡
       }
 
 -- what a refusal carries
-refused_none : (answer : Tracked) → (number_of answer ≡ 0 → ⊥) → (count_of answer ≡ 0) × (tracks_of answer ≡ 0)
-refused_none (Tracks n t) h = absurd (h refl)
-refused_none (Refused why) h = (refl, refl)
-refused_none TwoNets h = (refl, refl)
-refused_none SpanBuffer h = (refl, refl)
+refused_none : (answer : Result Counts TrackRefusal) → (number_of answer ≡ 0 → ⊥) → (count_of answer ≡ 0) × (tracks_of answer ≡ 0)
+refused_none (Ok counts) h = absurd (h refl)
+refused_none (Err (Listed why)) h = (refl, refl)
+refused_none (Err TwoNets) h = (refl, refl)
+refused_none (Err SpanBuffer) h = (refl, refl)
 
-same_amount : (s : Sheet) (cs : List ℕ) (room : ℕ) (l : Listed) → amount_of (tracked_as s cs room l) ≡ list.amount_of l
+same_amount : (s : Sheet) (cs : List ℕ) (room : ℕ) (l : Result Layout ListRefusal) → amount_of (tracked_as s cs room l) ≡ list.amount_of l
 unfolding answer_for
-same_amount s cs room (listed.Assignment n) = go (two_nets (pins (s.top ++ s.bottom) cs)) (ltb room (length (spans_of s cs)))
+same_amount s cs room (Ok n) = go (two_nets (pins (s.top ++ s.bottom) cs)) (ltb room (length (spans_of s cs)))
   where
-    go : (a b : Bool) → amount_of (cond a TwoNets (cond b SpanBuffer (Tracks (length (spans_of s cs)) (greatest (spans_of s cs))))) ≡ pos 0
+    go : (a b : Bool) → amount_of (cond a (Err TwoNets) (cond b (Err SpanBuffer) (Ok (record { nets = length (spans_of s cs); tracks = greatest (spans_of s cs) })))) ≡ pos 0
     go true b = refl
     go false true = refl
     go false false = refl
-same_amount s cs room (listed.Refused why) = refl
+same_amount s cs room (Err why) = refl
 
 first-number :
-    (s : Sheet) (cs : List ℕ) (room : ℕ) (l : Listed) → (list.number_of l ≡ 0 → ⊥) → number_of (tracked_as s cs room l) ≡ list.number_of l
-first-number s cs room (listed.Assignment n) h = absurd (h refl)
-first-number s cs room (listed.Refused why) h = refl
+    (s : Sheet) (cs : List ℕ) (room : ℕ) (l : Result Layout ListRefusal) → (list.number_of l ≡ 0 → ⊥) → number_of (tracked_as s cs room l) ≡ list.number_of l
+first-number s cs room (Ok n) h = absurd (h refl)
+first-number s cs room (Err why) h = refl
 
-module _ (bytes columns : List ℕ) (spans spans' : List Span) (answer : Tracked) (is : answer ≡ tracked_of bytes columns (length spans))
+module _ (bytes columns : List ℕ) (spans spans' : List Span) (answer : Result Counts TrackRefusal) (is : answer ≡ tracked_of bytes columns (length spans))
     (after : spans' ≡ spans_after bytes columns spans) where
   -- the caller's array at exit, by the answer
   left : spans' ≡ spans_with answer (spans_of (sheet_of bytes) columns) ++ drop (count_of answer) spans
   unfolding spans_after
-  left = after ∙ ap (λ (a : Tracked). spans_with a (spans_of (sheet_of bytes) columns) ++ drop (count_of a) spans) (sym is)
+  left = after ∙ ap (λ (a : Result Counts TrackRefusal). spans_with a (spans_of (sheet_of bytes) columns) ++ drop (count_of a) spans) (sym is)
 
   decides_sheet :
-      (l : Listed) → listed_of bytes columns ≡ l → list.number_of l ≡ 0
+      (l : Result Layout ListRefusal) → listed_of bytes columns ≡ l → list.number_of l ≡ 0
       → Decides (sheet_of bytes) columns spans spans' (number_of answer) (count_of answer) (tracks_of answer)
   unfolding tracked_of
-  decides_sheet (listed.Assignment n) e z =
+  decides_sheet (Ok n) e z =
       let laws = assigns bytes columns n e in
       decided (sheet_of bytes) (read-sound bytes (sheet_of bytes) laws.opens.reads) columns laws.assigned spans spans' answer
       (is ∙ ap (tracked_as (sheet_of bytes) columns (length spans)) e) left
-  decides_sheet (listed.Refused why) e z = absurd (list_number_some why z)
+  decides_sheet (Err why) e z = absurd (list_number_some why z)
 
   -- all that document 02 asks of one call
   pub one_routing : Returned bytes columns spans spans' (number_of answer) (count_of answer) (tracks_of answer) (amount_of answer)

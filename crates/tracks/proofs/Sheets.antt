@@ -1,5 +1,8 @@
 -- Tracks, from what the list's check and the routing of an assignment answer.
 -- Assumes nothing.
+use Rattle.std.proofs.Common.{Result}
+use Rattle.tracked.specs.declared.TrackRefusal.{TrackRefusal}
+use Rattle.std.proofs.Common.{Ok, Err}
 use Prim.Native.Nat.{ℕ}
 use mathlib.Core.Path.{◌≡◌, sym, ap, subst}
 use mathlib.Core.List.{List, ◌++◌}
@@ -19,22 +22,22 @@ use Rattle.left_edge.specs.Lists.{Each}
 use Rattle.left_edge.specs.Spans.{spans_of}
 use Rattle.left_edge.proofs.Ends.{Inside}
 use Rattle.left_edge.proofs.Routes.{assignment_inside}
-use Rattle.list.specs.declared.Listed.TheVariants as listed
 use Rattle.list.specs.Answer.{listed_of}
 use Rattle.list.proofs.Laws.{Assigns, assigns}
-use Rattle.tracked.specs.declared.Tracked.TheVariants.{Refused}
+use Rattle.tracked.specs.declared.TrackRefusal.TheVariants.{Listed}
 use Rattle.tracked.specs.declared.Routed.{Routed}
-use Rattle.tracks.specs.Answer.{tracked_of, no_spans, Gives, GivesIn, AsksTracks}
+use Rattle.tracked.specs.Routed.{no_spans, counts_in, array_in}
+use Rattle.tracks.specs.Answer.{tracked_of, Gives, GivesIn, AsksTracks}
 
 pub list_refused :
-    (b cs : List ℕ) (room : ℕ) (why : ListRefusal) → listed_of b cs ≡ listed.Refused why → (r : Routed)
-    → (r.answer ≡ Refused why) × (r.spans ≡ no_spans)
+    (b cs : List ℕ) (room : ℕ) (why : ListRefusal) → listed_of b cs ≡ Err why → (r : Result Routed TrackRefusal)
+    → (counts_in r ≡ Err (Listed why)) × (array_in r ≡ no_spans)
     → Gives (tracked_of b cs room) (spans_of (sheet_of b) cs) r
 unfolding tracked_of
 list_refused b cs room why e r answer = rw e answer
 
 -- an assignment, beside the two sections of its sheet
-module _ (b cs : List ℕ) (n : Layout) (answer : listed_of b cs ≡ listed.Assignment n) (top bottom : List ℕ)
+module _ (b cs : List ℕ) (n : Layout) (answer : listed_of b cs ≡ Ok n) (top bottom : List ℕ)
     (is_top : top ≡ bytes_of b n.top) (is_bottom : bottom ≡ bytes_of b n.bottom) where
   laws : Assigns b cs n
   laws = assigns b cs n answer
@@ -57,7 +60,7 @@ module _ (b cs : List ℕ) (n : Layout) (answer : listed_of b cs ≡ listed.Assi
       }
 
   pub tracks_given :
-      (room : ℕ) (r : Routed)
+      (room : ℕ) (r : Result Routed TrackRefusal)
       → let s : Sheet = sheet_in n.shape.columns top bottom in
       GivesIn s.columns (pins (s.top ++ s.bottom) cs) (nets (s.top ++ s.bottom)) room r
       → Gives (tracked_of b cs room) (spans_of (sheet_of b) cs) r

@@ -12,46 +12,24 @@ ghost use Rattle.ends.specs.Ends.{pins_of};
 ghost use Rattle.left_edge.specs.Lists.{Each};
 ghost use Rattle.left_edge.specs.Spans.{spans_of, two_nets};
 ghost use Rattle.order.specs.Keys.{Columns};
-ghost use Rattle.tracks.specs.Answer.{no_spans, Gives, GivesIn, AsksTracks, tracked_of};
+ghost use Rattle.tracks.specs.Answer.{Gives, GivesIn, AsksTracks, tracked_of};
 
-use left_edge::Span;
-use list::Listed;
 use method::route_keys;
 use nets::all_nets;
 use order::order_nets;
-use tracked::{Routed, Tracked};
+use tracked::{Routed, TrackRefusal};
 
 // Gives the nets of a column list their tracks: 1 to 8 of the sheet, 12, 13 and 14 of the list, then 18 where a column has pins of two nets
 // and 9 where there is room for fewer spans than nets; otherwise the spans, and how many tracks they take.
-pub fn route(s: &[u8], columns: &[u8], room: usize) -> Routed
+pub fn route(s: &[u8], columns: &[u8], room: usize) -> Result<Routed, TrackRefusal>
     ensures { Gives (tracked_of s.now columns.now room)
         (spans_of (sheet_of s.now) columns.now) result }
 {
-    let listed = list::check(s, columns);
-    match listed {
-        Listed::Refused(why) => refused(Tracked::Refused(why)),
-        Listed::Assignment(layout) => {
-            let shape = layout.shape;
-            let top = format::part_in(s, layout.top);
-            let bottom = format::part_in(s, layout.bottom);
-            route_columns(top, bottom, columns, shape.top, shape.columns, room)
-        }
-    }
-}
-
-// An answer without spans.
-fn refused(answer: Tracked) -> Routed
-    ensures { (result.answer ≡ answer) × (result.spans ≡ no_spans) }
-{
-    Routed {
-        answer,
-        spans: [Span {
-            net: 0,
-            left: 0,
-            right: 0,
-            track: 0,
-        }; 128],
-    }
+    let layout = list::check(s, columns)?;
+    let shape = layout.shape;
+    let top = format::part_in(s, layout.top);
+    let bottom = format::part_in(s, layout.bottom);
+    route_columns(top, bottom, columns, shape.top, shape.columns, room)
 }
 
 // 18 and 9 of an assignment, from the two sections, the top terminals p and the channel's length.
@@ -62,7 +40,7 @@ fn route_columns<'a>(
     p: usize,
     l: usize,
     room: usize,
-) -> Routed
+) -> Result<Routed, TrackRefusal>
     requires { AsksTracks top.now bottom.now columns.now p l }
     ensures { GivesIn l (pins (terminals_in top.now ++ terminals_in bottom.now) columns.now)
         (nets_of (terminals_in top.now ++ terminals_in bottom.now)) room result }
@@ -74,19 +52,19 @@ fn route_columns<'a>(
 }
 
 // The same from the nets of the pins.
-fn route_nets(nets: &[u16], columns: &[u8], l: u8, room: usize) -> Routed
+fn route_nets(nets: &[u16], columns: &[u8], l: u8, room: usize) -> Result<Routed, TrackRefusal>
     requires { Columns nets.now columns.now l × (length nets.now ≤ 128) }
     ensures { GivesIn l (pins_of nets.now columns.now) nets.now room result }
 {
     if two_nets(nets, columns) {
-        return refused(Tracked::TwoNets);
+        return Err(TrackRefusal::TwoNets);
     }
     let mut keys: [u32; 128] = [0; 128];
     let count = order_nets(nets, columns, l, &mut keys);
     if room < count {
-        return refused(Tracked::SpanBuffer);
+        return Err(TrackRefusal::SpanBuffer);
     }
-    route_keys(&keys[..count])
+    Ok(route_keys(&keys[..count]))
 }
 
 // Whether a column has pins of two nets.
@@ -97,14 +75,12 @@ fn two_nets(nets: &[u16], columns: &[u8]) -> bool
     // one more than the net of the last pin in each column, 0 where there was none
     let mut seen: [u32; 256] = [0; 256];
     let mut found = false;
-    let mut i = 0;
-    while i < nets.len() {
+    for i in 0..nets.len() {
         let mark = nets[i] as u32 + 1;
         let column = columns[i] as usize;
         let before = seen[column];
-        found = found | ((before != 0) & (before != mark));
+        found |= (before != 0) & (before != mark);
         seen[column] = mark;
-        i += 1;
     }
     found
 }

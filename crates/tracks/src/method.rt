@@ -1,20 +1,19 @@
 // The left-edge method over the intervals of nets in order.
 
-ghost use Rattle.std.specs.Prelude.{◌≡◌, ◌++◌, map, ℕ, ◌≤◌, ◌<◌, max, length, drop};
+ghost use Rattle.std.specs.Prelude.{◌≡◌, ◌++◌, map, ℕ, ◌≤◌, ◌<◌, length, drop};
 ghost use Rattle.left_edge.specs.Lists.{Each};
 ghost use Rattle.left_edge.specs.Method.{passed, track_on, step, left_edge, greatest};
 ghost use Rattle.order.specs.Keys.{interval_at};
-ghost use Rattle.tracked.specs.declared.Tracked.TheVariants.{Tracks};
-ghost use Rattle.tracks.specs.Answer.{no_spans};
+ghost use Rattle.tracked.specs.Routed.{no_spans};
 
 use left_edge::{Interval, Span};
 use order::interval_at;
-use tracked::{Routed, Tracked};
+use tracked::{Counts, Routed};
 
 // The spans of intervals in order, each given as its key, and how many tracks they take.
 pub fn route_keys(keys: &[u32]) -> Routed
     requires { (length keys.now ≤ 128) × Each (λ (k : ℕ). 1 ≤ (interval_at k).left) keys.now }
-    ensures answer { result.answer ≡ Tracks (length keys.now) (greatest (left_edge (map interval_at keys.now))) }
+    ensures counts { result.counts ≡ record { nets = length keys.now; tracks = greatest (left_edge (map interval_at keys.now)) } }
     ensures spans { result.spans ≡ left_edge (map interval_at keys.now) ++ drop (length keys.now) no_spans }
 {
     let mut spans = [Span {
@@ -26,16 +25,17 @@ pub fn route_keys(keys: &[u32]) -> Routed
     // how far right each track is used
     let mut ends: [u8; 128] = [0; 128];
     let mut tracks: u16 = 0;
-    let mut i = 0;
-    while i < keys.len() {
-        let x = interval_at(keys[i]);
+    for (i, key) in keys.iter().enumerate() {
+        let x = interval_at(*key);
         let track = take_track(x, &mut ends);
         spans[i] = span_on(x, track);
-        tracks = larger(tracks, track);
-        i += 1;
+        tracks = tracks.max(track);
     }
     Routed {
-        answer: Tracked::Tracks(keys.len(), tracks),
+        counts: Counts {
+            nets: keys.len(),
+            tracks,
+        },
         spans,
     }
 }
@@ -49,12 +49,6 @@ fn span_on(x: Interval, track: u16) -> Span
         right: x.right as u16,
         track,
     }
-}
-
-fn larger(a: u16, b: u16) -> u16
-    ensures { result ≡ max a b }
-{
-    if a < b { b } else { a }
 }
 
 // Puts an interval on the lowest free track, and says which; 0 where it crosses no column.
@@ -71,7 +65,7 @@ fn take_track(x: Interval, ends: &mut [u8]) -> u16
     (i + 1) as u16
 }
 
-// The first track that ends left of a column, counted from 0.
+// The first track that ends left of a column, counted from 0. There is one, so that `position` would say too little.
 fn free_track(ends: &[u8], left: u8) -> usize
     requires { passed ends.now left < length ends.now }
     ensures { result ≡ passed ends.now left }

@@ -1,13 +1,9 @@
 -- Laws of the walk's choices: what each question to the table says.
 -- Assumes nothing.
-use Prim.Native.Nat.{ℕ, zero, suc, ◌+◌, ◌-◌, ◌≤◌, ◌<◌, min}
-use mathlib.Core.Path.{◌≡◌, refl, sym, ap}
-use mathlib.Core.List.{List}
-use mathlib.Core.Bool.{Bool, true, false, cond, ◌&&◌, and-false, or-false}
-use native.Mathlib.Omega.{arith}
-use native.Mathlib.Nat.{le_refl}
-use lib.Dec.{leb, ltb, eqb, leb-zero}
-use borrow.Author.Tests.{le-leb, lt-leb, lt-ltb, le-ltb, eqb-false}
+use Rattle.std.proofs.Common.{ℕ, zero, suc, ◌+◌, ◌-◌, ◌≤◌, ◌<◌, min, ◌≡◌, refl, sym, ap, ◌∙◌, List, Bool, true, false, cond, ◌&&◌, arith, le_refl, leb, ltb, eqb, le-leb, lt-ltb, le-ltb}
+use mathlib.Core.Bool.{and-false, or-false}
+use lib.Dec.{leb-zero}
+use borrow.Author.Tests.{lt-leb, eqb-false}
 use Rattle.channel.specs.Below.{any_below}
 use Rattle.channel.proofs.Below.{any_below_cong}
 use Rattle.bits.specs.Bits.{bit_of}
@@ -44,12 +40,11 @@ module _ (work rules : List ℕ) (g : Grid) (p : ℕ) (m : Progress) (w : ℕ) w
   none_left h = rw (lt-leb m.i (m.c - 1) h)
 
   pub rows_left :
-      (high next by : ℕ) → m.i ≤ m.c - 1 → high ≡ min (m.c - 1 - m.i) (g.rows - 1)
-      → next ≡ stands_at m.i p m.top → by ≡ steps_to rules 0 m.i p
-      → meeting work g m.i m.j 0 high next by w ≡ empty_meets work rules g p m w
+      (high : ℕ) → m.i ≤ m.c - 1 → high ≡ min (m.c - 1 - m.i) (g.rows - 1)
+      → meeting work g m.i m.j 0 high (stands_at m.i p m.top) (steps_to rules 0 m.i p) w ≡ empty_meets work rules g p m w
   unfolding meeting
-  rows_left high next by h eh en es =
-      rw (le-leb m.i (m.c - 1) h, eh, en, es)
+  rows_left high h eh =
+      rw (le-leb m.i (m.c - 1) h, eh)
       (any_below_cong (suc (min (m.c - 1 - m.i) (g.rows - 1)))
       (λ (x : ℕ). leb 0 x && row_meets work rules g p m (bit_of w) x) (row_meets work rules g p m (bit_of w)) (λ x l. rw (leb-zero x)))
 
@@ -63,12 +58,11 @@ module _ (work rules : List ℕ) (g : Grid) (p : ℕ) (m : Progress) (w : ℕ) w
   row_past h = rw (le-ltb (m.c - m.i) g.rows h, and-false (leb m.i m.c)) (sym (and-false (ltb 0 m.i)))
 
   pub row_here :
-      (next by : ℕ) → (m.i ≡ 0 → ⊥) → m.i ≤ m.c → m.c - m.i < g.rows
-      → next ≡ stands_at m.i p m.top → by ≡ steps_to rules 0 m.i p
-      → meeting work g m.i m.j (m.c - m.i) (m.c - m.i) next by w ≡ top_meets work rules g p m w
+      (m.i ≡ 0 → ⊥) → m.i ≤ m.c → m.c - m.i < g.rows
+      → meeting work g m.i m.j (m.c - m.i) (m.c - m.i) (stands_at m.i p m.top) (steps_to rules 0 m.i p) w ≡ top_meets work rules g p m w
   unfolding meeting
-  row_here next by some_pin_lem left inside en es =
-      rw (lt-ltb 0 m.i (omega (arith, some_pin_lem)), le-leb m.i m.c left, lt-ltb (m.c - m.i) g.rows inside, en, es)
+  row_here some_pin_lem left inside =
+      rw (lt-ltb 0 m.i (omega (arith, some_pin_lem)), le-leb m.i m.c left, lt-ltb (m.c - m.i) g.rows inside)
       (only (m.c - m.i) (row_meets work rules g p m (bit_of w)))
     where
       none : (n r : ℕ) (f : ℕ → Bool) → n ≤ r → any_below n (λ (x : ℕ). leb r x && f x) ≡ false
@@ -112,20 +106,30 @@ module _ (work rules : List ℕ) (g : Grid) (p q : ℕ) (m : Progress) where
   pin-below r some_pin_lem room near e =
       rw (lt-ltb 0 m.j (omega (arith, some_pin_lem)), le-leb m.j m.c room, near) e
 
-  -- the letter
-  pub chose_empty : empty_fits work rules g p q m ≡ true → 0 ≡ choice_in work rules g p q m
-  unfolding choice_in
-  chose_empty e = rw e
+-- the letter, from the answers to the three questions, where the first two are of the numbers left of the column
+module _ (work rules : List ℕ) (g : Grid) (p q : ℕ) (m : Progress) (w : ℕ) (same : (y : ℕ) → y < 64 → bit_of w y ≡ lefts rules q m y)
+  where
+    empty_says : (r t : Bool) → r ≡ empty_meets work rules g p m w → r ≡ t → empty_fits work rules g p q m ≡ t
+    empty_says r t e h = sym (left_same work rules g p m w (lefts rules q m) same) ∙ sym e ∙ h
 
-  pub chose_top : empty_fits work rules g p q m ≡ false → top_fits work rules g p q m ≡ true → 1 ≡ choice_in work rules g p q m
-  unfolding choice_in
-  chose_top e t = rw (e, t)
+    top_says : (r t : Bool) → r ≡ top_meets work rules g p m w → r ≡ t → top_fits work rules g p q m ≡ t
+    top_says r t e h = sym (here_same work rules g p m w (lefts rules q m) same) ∙ sym e ∙ h
 
-  pub chose_other :
-      (b : Bool) → empty_fits work rules g p q m ≡ false → top_fits work rules g p q m ≡ false → bottom_fits work rules g p q m ≡ b
-      → cond b 2 3 ≡ choice_in work rules g p q m
-  unfolding choice_in
-  chose_other b e t f = rw (e, t, f)
+    pub chose_empty : (r : Bool) → r ≡ empty_meets work rules g p m w → r ≡ true → 0 ≡ choice_in work rules g p q m
+    unfolding choice_in
+    chose_empty r e h = rw (empty_says r true e h)
+
+    pub chose_top :
+        (r s : Bool) → r ≡ empty_meets work rules g p m w → r ≡ false → s ≡ top_meets work rules g p m w → s ≡ true
+        → 1 ≡ choice_in work rules g p q m
+    unfolding choice_in
+    chose_top r s e h f k = rw (empty_says r false e h, top_says s true f k)
+
+    pub chose_other :
+        (r s b : Bool) → r ≡ empty_meets work rules g p m w → r ≡ false → s ≡ top_meets work rules g p m w → s ≡ false
+        → (t : Bool) → t ≡ bottom_fits work rules g p q m → t ≡ b → cond b 2 3 ≡ choice_in work rules g p q m
+    unfolding choice_in
+    chose_other r s b e h f k t o u = rw (empty_says r false e h, top_says s false f k, sym o ∙ u)
 
 -- the walk goes on with what it needs
 pub walks_on : (p q letter : ℕ) (m : Progress) → 0 < m.c → AsksStep p q m → AsksStep p q (behind letter m)
@@ -152,15 +156,22 @@ walks_from p q l h =
     record { c = h; i = le_refl p; j = le_refl q; top = λ n. absurd (omega arith); bottom = λ n. absurd (omega arith) }
 
 -- one letter of the walk
-pub walk_more :
+letter_more :
     (work rules : List ℕ) (g : Grid) (p q left letter : ℕ) (m m' : Progress) (columns columns' : List ℕ) → 0 < left
     → letter ≡ choice_in work rules g p q m → m' ≡ behind letter m → columns' ≡ written p letter m columns
     → walk_columns work rules g p q (left - 1) m' columns' ≡ walk_columns work rules g p q left m columns
 unfolding walk_columns
-walk_more work rules g p q zero letter m m' columns columns' h e em ec = elim h [ ]
-walk_more work rules g p q (suc left) letter m m' columns columns' h e em ec =
+letter_more work rules g p q zero letter m m' columns columns' h e em ec = elim h [ ]
+letter_more work rules g p q (suc left) letter m m' columns columns' h e em ec =
     let less : suc left - 1 ≡ left = omega arith in
     rw (em, ec, e, less)
+
+pub walk_more :
+    (work rules : List ℕ) (g : Grid) (p q letter : ℕ) (m m' : Progress) (columns columns' : List ℕ) → 0 < m.c
+    → letter ≡ choice_in work rules g p q m → m' ≡ behind letter m → columns' ≡ written p letter m columns
+    → walk_columns work rules g p q m'.c m' columns' ≡ walk_columns work rules g p q m.c m columns
+walk_more work rules g p q letter m m' columns columns' h e em ec =
+    rw em (letter_more work rules g p q m.c letter m (behind letter m) columns columns' h e refl ec)
 
 pub walk_none :
     (work rules : List ℕ) (g : Grid) (p q left : ℕ) (m : Progress) (columns : List ℕ) → left ≤ 0

@@ -1,8 +1,6 @@
 -- `bits::below` meets its contract: the high bits of a full word, shifted down.
 -- Assumes nothing.
-use mathlib.Core.Path.{◌∙◌, sym}
-use borrow.Author.Tests.{lt-ltb, le-ltb}
-use native.Mathlib.Omega.{arith}
+use Rattle.std.proofs.Common.{sym, ◌∙◌, arith, le-ltb, lt-ltb}
 use Rattle.bits.proofs.Laws.{bit_zero, bit-full, bit_below}
 use Rattle.bits.proofs.below.Goals as goal
 

@@ -1,9 +1,8 @@
 -- `bits::bit` meets its contract: a word has no bit from 64 on, and below that the shifted word's last bit says it.
 -- Assumes nothing.
-use mathlib.Core.Path.{sym}
+use Rattle.std.proofs.Common.{sym, rules}
 use Rattle.bits.specs.Bits.{bit_of}
 use Rattle.bits.proofs.Laws.{bit_high}
-use borrow.Author.Rules.{rules}
 use Rattle.bits.proofs.bit.Goals as goal
 
 pub returns-then-k-ge64 : goal.returns-then-k-ge64

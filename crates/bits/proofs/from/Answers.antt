@@ -1,8 +1,7 @@
 -- `bits::from` meets its contract: a full word shifted down and up again.
 -- Assumes nothing.
-use mathlib.Core.Path.{◌∙◌, sym}
+use Rattle.std.proofs.Common.{sym, ◌∙◌, arith}
 use borrow.Author.Tests.{lt-leb}
-use native.Mathlib.Omega.{arith}
 use Rattle.bits.proofs.Laws.{bit_zero, bit-from}
 use Rattle.bits.proofs.from.Goals as goal
 

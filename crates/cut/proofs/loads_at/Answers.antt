@@ -1,18 +1,19 @@
-use Prim.Native.Nat.{◌/◌}
-use mathlib.Core.Path.{◌≡◌, ap, ◌∙◌}
-use native.Mathlib.Omega.{arith}
-use lib.ListN.{length}
-use Rattle.cut.specs.Counts.{loads_to, loads_at}
-use Rattle.cut.proofs.Crossings.{loads_small}
+-- `cut::loads_at` meets its contract: each net is counted after those before it.
+-- Assumes nothing.
+use Rattle.std.proofs.Common.{◌∙◌, sym, refl, arith}
+use Rattle.cut.specs.Counts.{loads_at}
+use Rattle.cut.proofs.Crossings.{small-more, loads-next}
 use Rattle.cut.proofs.loads_at.Goals as goal
 
-pub with_net-l-requires : goal.with_net-l-requires
-with_net-l-requires c = loads_small _ _ c.loop-m.m _ c.loop-m.invariant.1 (omega arith)
-
-pub returns : goal.returns
+pub loop-s-init : goal.loop-s-init
 unfolding loads_at
-returns c =
-    let a = c.args in
-    let l = c.loop-m in
-    let all : l.m ≡ length a.places.now / 5 = omega arith in
-    l.invariant.1 ∙ ap (loads_to a.places.now a.c) all
+loop-s-init c = record { small = record { top = omega arith; bottom = omega arith; both = omega arith }; same = refl }
+
+pub loop-s-preserved : goal.loop-s-preserved
+loop-s-preserved c =
+    let l = c.loop-s in
+    let places = c.args.places.now in
+    rw c.with_net-l.ensures (record {
+      small = small-more c.args.c l.l _ l.s-index l.invariant.small;
+      same = sym (loads-next c.args.c l.l places l.s-index _ (omega arith)) ∙ l.invariant.same;
+    })

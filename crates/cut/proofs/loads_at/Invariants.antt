@@ -1,13 +1,11 @@
--- `cut::loads_at` meets its contract. The loop's invariant: the loads are those of the first m nets' places. The measure is how many are
--- left.
+-- `cut::loads_at` meets its contract. The loop's invariant: the loads so far, with the nets that are left, make the loads, and none is
+-- more than the nets passed.
 -- Assumes nothing.
-use Prim.Native.Nat.{◌≤◌, ◌-◌}
-use mathlib.Core.Path.{◌≡◌}
-use Rattle.cut.specs.Counts.{loads_to}
+use Rattle.std.proofs.Common.{◌≡◌, drop}
+use Rattle.cut.specs.Counts.{loads_from, loads_at}
+use Rattle.cut.proofs.Crossings.{Small}
 use Rattle.cut.proofs.loads_at.Given as goal
 
-abbrev pub invariant-loop-m : goal.invariant-loop-m
-invariant-loop-m l = (l.m ≤ l.n) × (l.l ≡ loads_to l.places l.c l.m)
-
-abbrev pub decreases-loop-m : goal.decreases-loop-m
-decreases-loop-m l = l.n - l.m
+abbrev pub invariant-loop-s : goal.invariant-loop-s
+invariant-loop-s l =
+    record { small : Small l.l l.s-index; same : loads_from l.c l.l (drop l.s-index l.places) ≡ loads_at l.places l.c }

@@ -5,8 +5,5 @@ use Rattle.cut.proofs.with_net.Goals as goal
 
 pub returns : goal.returns
 returns c =
-    let x = c.crosses-top in
-    let y = c.crosses-bottom in
-    let z = c.crosses-both in
-    net_more _ _ _ _ _ _ _ _ _ x.ensures y.ensures z.ensures c.add_if.ensures c.add_if-2.ensures
-    c.add_if-3.ensures
+    rw (c.from.ensures, c.from-2.ensures, c.from-3.ensures)
+    (net_more _ _ _ _ _ _ c.crosses-top.ensures c.crosses-bottom.ensures c.crosses-both.ensures)

@@ -1,6 +1,5 @@
-use Prim.Native.Nat.{ℕ}
-use mathlib.Core.Path.{◌∙◌, ap}
-use lib.ListN.{length, length-replicate}
+use Rattle.std.proofs.Common.{ℕ, length, ap, ◌∙◌}
+use lib.ListN.{length-replicate}
 use Rattle.density.proofs.Sums.{counted_none, counts_small}
 use Rattle.density.proofs.count_nets.Goals as goal
 

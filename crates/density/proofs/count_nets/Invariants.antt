@@ -1,14 +1,9 @@
 -- `density::count_nets` meets its contract. The loop's invariant: the counts so far, with what the nets that are left still add, are the
--- crossings. The measure is how many nets are left.
+-- crossings.
 -- Assumes nothing.
-use Prim.Native.Nat.{◌-◌}
-use mathlib.Core.Path.{◌≡◌}
-use lib.ListN.{length}
+use Rattle.std.proofs.Common.{◌≡◌, length}
 use Rattle.density.proofs.Sums.{Counted}
 use Rattle.density.proofs.count_nets.Given as goal
 
 abbrev pub invariant-loop-i : goal.invariant-loop-i
 invariant-loop-i l = (length l.counts ≡ 256) × Counted l.nets l.columns l.i l.counts
-
-abbrev pub decreases-loop-i : goal.decreases-loop-i
-decreases-loop-i l = length l.nets - l.i

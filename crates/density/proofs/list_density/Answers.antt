@@ -1,11 +1,7 @@
 -- `density::list_density` meets its contract: the greatest of the counts is the density.
 -- Assumes nothing.
-use Prim.Native.Nat.{ℕ, ◌<◌}
-use mathlib.Core.Path.{◌≡◌, sym, ◌∙◌, ap, fun_ext}
-use mathlib.Core.List.{List, ◌++◌}
-use native.Mathlib.Omega.{arith}
-use lib.ListN.{length, take, drop, replicate}
-use lib.Seq.{take_at}
+use Rattle.std.proofs.Common.{◌≡◌, ℕ, ◌<◌, List, ◌++◌, length, take, drop, replicate, sym, ap, ◌∙◌, arith, take_at}
+use mathlib.Core.Path.{fun_ext}
 use Rattle.channel.specs.Density.{maximum_to}
 use Rattle.channel.specs.Cut.{nets}
 use Rattle.format.specs.Parts.{terminals_in}
@@ -32,7 +28,7 @@ returns c =
     let a = c.args in
     let short : a.l < 255 = omega (arith, c.requires.short) in
     let stands = held a.top.now a.bottom.now a.columns.now a.p a.l c.all_nets.new.nets c.requires c.all_nets.ensures in
-    c.wide.ensures
+    c.from.ensures
     ∙ c.greatest.ensures
     ∙ ap (maximum_to a.l)
     (fun_ext

@@ -1,18 +1,13 @@
 -- `ends::ends_of` meets its contract. The loop's invariant: each end is the one so far, moved on by the pins that are left.
--- The measure is how many they are.
 -- Assumes nothing.
-use Prim.Native.Nat.{◌-◌, ◌≤◌, min, max}
-use mathlib.Core.Path.{◌≡◌}
-use lib.ListN.{length, drop}
+use Rattle.std.proofs.Common.{◌≡◌, ◌≤◌, min, max, drop}
 use Rattle.channel.specs.Spans.{end_from, leftmost, rightmost}
 use Rattle.ends.specs.Ends.{pins_of}
 use Rattle.ends.proofs.ends_of.Given as goal
 
 abbrev pub invariant-loop-i : goal.invariant-loop-i
-invariant-loop-i l = (l.i ≤ length l.nets)
-    × (l.left ≤ 255)
-    × (leftmost l.net (pins_of l.nets l.columns) ≡ end_from min l.left l.net (pins_of (drop l.i l.nets) (drop l.i l.columns)))
-    × (rightmost l.net (pins_of l.nets l.columns) ≡ end_from max l.right l.net (pins_of (drop l.i l.nets) (drop l.i l.columns)))
-
-abbrev pub decreases-loop-i : goal.decreases-loop-i
-decreases-loop-i l = length l.nets - l.i
+invariant-loop-i l = (l.left ≤ 255)
+    × (leftmost l.net (pins_of l.nets l.columns)
+    ≡ end_from min l.left l.net (pins_of (drop l.i l.nets) (drop l.i l.columns)))
+    × (rightmost l.net (pins_of l.nets l.columns)
+    ≡ end_from max l.right l.net (pins_of (drop l.i l.nets) (drop l.i l.columns)))

@@ -1,10 +1,8 @@
 -- `entry::pair` meets its contract: at each return the tests that led there decide, and the number found is that of the contract.
 -- Assumes nothing.
-use Prim.Native.Nat.{ℕ, suc, ◌-◌, ◌+◌}
-use mathlib.Core.Path.{◌∙◌, sym, ap}
-use mathlib.Core.Bool.{Bool, ◌&&◌}
-use native.Mathlib.Omega.{arith}
+use Rattle.std.proofs.Common.{ℕ, suc, ◌-◌, ◌+◌, ◌∙◌, sym, ap, Bool, ◌&&◌, arith, le-leb}
 use Rattle.channel.specs.Below.{any_below}
+use borrow.Author.Tests.{lt-leb}
 use Rattle.bits.specs.Bits.{bit_of}
 use Rattle.steps.specs.Stepped.{stepped}
 use Rattle.bits.proofs.Laws.{bit_zero}
@@ -15,25 +13,25 @@ use Rattle.entry.proofs.pair.Goals as goal
 pub returns-then-i-eq0 : goal.returns-then-i-eq0
 returns-then-i-eq0 c =
     let a = c.args in
-    λ y h. bit_zero y ∙ no-top-pair a.rules.now a.loads.now a.bound a.place.i a.place.j a.place.x y
+    λ y h. bit_zero y ∙ no-top-pair a.rules.now.words a.loads.now.bytes a.bound a.place.i a.place.j a.place.x y
     (held a.work.now (a.place.at - (a.grid.stride + a.grid.size))) c.if-i-eq0.true
 
 pub returns-then-j-eq0 : goal.returns-then-j-eq0
 returns-then-j-eq0 c =
     let a = c.args in
-    λ y h. bit_zero y ∙ no-bottom-pair a.rules.now a.loads.now a.bound a.place.i a.place.j a.place.x y
+    λ y h. bit_zero y ∙ no-bottom-pair a.rules.now.words a.loads.now.bytes a.bound a.place.i a.place.j a.place.x y
     (held a.work.now (a.place.at - (a.grid.stride + a.grid.size))) c.if-j-eq0.true
 
 pub returns-then-x-i : goal.returns-then-x-i
 returns-then-x-i c =
     let a = c.args in
-    λ y h. bit_zero y ∙ pair-apart a.rules.now a.loads.now a.bound a.place.i a.place.j a.place.x y
+    λ y h. bit_zero y ∙ pair-apart a.rules.now.words a.loads.now.bytes a.bound a.place.i a.place.j a.place.x y
     (held a.work.now (a.place.at - (a.grid.stride + a.grid.size))) (λ e. omega (arith, c.if-x-i.true))
 
 pub returns-then-y-ge64 : goal.returns-then-y-ge64
 returns-then-y-ge64 c =
     let a = c.args in
-    λ y h. bit_zero y ∙ pair-apart a.rules.now a.loads.now a.bound a.place.i a.place.j a.place.x y
+    λ y h. bit_zero y ∙ pair-apart a.rules.now.words a.loads.now.bytes a.bound a.place.i a.place.j a.place.x y
     (held a.work.now (a.place.at - (a.grid.stride + a.grid.size))) (λ e. omega (arith, c.if-y-ge64.true))
 
 pub returns-then-bit : goal.returns-then-bit
@@ -42,10 +40,10 @@ returns-then-bit c =
     λ y h.
     c.both-then-bit.ensures y
     ∙ ap (λ (t : Bool). bit_of c.single.result y && t) (c.both.ensures y)
-    ∙ pair_found a.rules.now a.loads.now a.bound a.place.i a.place.j a.place.x y
+    ∙ pair_found a.rules.now.words a.loads.now.bytes a.bound a.place.i a.place.j a.place.x y
     (held a.work.now (a.place.at - (a.grid.stride + a.grid.size))) c.rows-found.result _ _ _ c.if-i-eq0.false
     c.if-j-eq0.false c.if-x-i.false
-    (sym c.within.ensures ∙ c.if-within.true)
+    (le-leb _ _ (omega (arith, c.at.ensures.both, c.if-at-bound.true)))
     (ap (λ (w : ℕ). bit_of w a.place.x) (sym c.allowed.ensures) ∙ sym c.bit.ensures ∙ c.if-bit.true)
     (λ m. c.rows-found.ensures m ∙ ap (λ (w : ℕ). any_below (suc a.place.x)
     (λ (n : ℕ). bit_of w (a.place.x - n) && held a.work.now (a.place.at - (a.grid.stride + a.grid.size)) n m))
@@ -57,12 +55,12 @@ returns-then-bit c =
 pub returns-else-bit : goal.returns-else-bit
 returns-else-bit c =
     let a = c.args in
-    λ y h. bit_zero y ∙ pair-barred a.rules.now a.loads.now a.bound a.place.i a.place.j a.place.x y
+    λ y h. bit_zero y ∙ pair-barred a.rules.now.words a.loads.now.bytes a.bound a.place.i a.place.j a.place.x y
     (held a.work.now (a.place.at - (a.grid.stride + a.grid.size)))
     (ap (λ (w : ℕ). bit_of w a.place.x) (sym c.allowed.ensures) ∙ sym c.bit.ensures ∙ c.if-bit.false)
 
-pub returns-else-within : goal.returns-else-within
-returns-else-within c =
+pub returns-else-at-bound : goal.returns-else-at-bound
+returns-else-at-bound c =
     let a = c.args in
-    λ y h. bit_zero y ∙ pair-heavy a.rules.now a.loads.now a.bound a.place.i a.place.j a.place.x y
-    (held a.work.now (a.place.at - (a.grid.stride + a.grid.size))) (sym c.within.ensures ∙ c.if-within.false)
+    λ y h. bit_zero y ∙ pair-heavy a.rules.now.words a.loads.now.bytes a.bound a.place.i a.place.j a.place.x y
+    (held a.work.now (a.place.at - (a.grid.stride + a.grid.size))) (lt-leb _ _ (omega (arith, c.at.ensures.both, c.if-at-bound.false)))

@@ -1,6 +1,6 @@
 -- `entry::start` meets its contract: at each return the tests that led there decide.
 -- Assumes nothing.
-use borrow.Author.Tests.{eq-eqb, ne_eqb}
+use Rattle.std.proofs.Common.{eq-eqb, ne_eqb}
 use Rattle.bits.proofs.Laws.{bit_one, bit_zero}
 use Rattle.entry.proofs.start.Goals as goal
 

@@ -1,7 +1,6 @@
 -- `entry::word` meets its contract: an entry is one of its four parts.
 -- Assumes nothing.
-use mathlib.Core.Path.{◌∙◌, ap₂}
-use mathlib.Core.Bool.{Bool, ◌||◌}
+use Rattle.std.proofs.Common.{◌∙◌, ap₂, Bool, ◌||◌}
 use Rattle.entry.specs.Entry.{entry}
 use Rattle.entry.proofs.word.Goals as goal
 

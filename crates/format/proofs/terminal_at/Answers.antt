@@ -1,6 +1,6 @@
 -- `format::terminal_at` meets its contract: the test decides whether there is such a terminal.
 -- Assumes nothing.
-use mathlib.Core.Path.{◌∙◌, ap}
+use Rattle.std.proofs.Common.{ap, ◌∙◌}
 use Rattle.terminal.specs.Terminal.{record_of}
 use Rattle.format.proofs.Records.{terminal_there, terminal_none}
 use Rattle.format.proofs.terminal_at.Goals as goal

@@ -1,5 +1,6 @@
 -- `list::check_columns` meets its contract: each answer is that of the first of the tests that refuses, else the assignment.
 -- Assumes nothing.
+use Rattle.std.proofs.Common.{Err}
 use mathlib.Core.Path.{sym, ◌∙◌, ap}
 use lib.IntN.{ℤ}
 use mir.Syntax.{w16}
@@ -7,7 +8,6 @@ use mir.Val.{of_z}
 use mir.Facts.{to_z-of_z}
 use Rattle.refusals.specs.declared.ListRefusal.TheVariants.{Distance}
 use Rattle.terminal.proofs.Laws.{zero_bits}
-use Rattle.list.specs.declared.Listed.TheVariants.{Refused}
 use Rattle.list.proofs.Columns.{top-refused, bottom-refused, distance-refused, listed}
 use Rattle.list.proofs.check_columns.Goals as goal
 
@@ -24,7 +24,7 @@ returns-then-not-all_allowed-2 c =
 pub returns-then-amount-ne0 : goal.returns-then-amount-ne0
 returns-then-amount-ne0 c =
     -- the amount is read back from the bits that hold it
-    ap (λ (z : ℤ). Refused (Distance z)) (to_z-of_z {w = w16} (record { sfits = c.first_amount-amount.type_inv }))
+    ap (λ (z : ℤ). Err (Distance z)) (to_z-of_z {w = w16} (record { sfits = c.first_amount-amount.type_inv }))
     ∙ distance-refused _ _ _ _ _ _ c.requires.0
     (sym c.all_allowed.ensures ∙ c.if-not-all_allowed.false)
     (sym c.all_allowed-2.ensures ∙ c.if-not-all_allowed-2.false)

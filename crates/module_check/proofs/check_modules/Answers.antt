@@ -1,10 +1,4 @@
-use Prim.Native.Nat.{ℕ, ◌+◌, ◌≤◌}
-use mathlib.Core.Path.{◌≡◌, sym, ◌∙◌, ap, ap₂}
-use mathlib.Core.List.{List}
-use mathlib.Core.Bool.{Bool, ◌&&◌}
-use native.Mathlib.Omega.{arith}
-use lib.ListN.{length}
-use lib.Dec.{leb}
+use Rattle.std.proofs.Common.{◌≡◌, ℕ, ◌+◌, ◌≤◌, Bool, ◌&&◌, leb, List, length, sym, ap, ◌∙◌, ap₂, arith}
 use Rattle.modules.specs.Modules.{Module}
 use Rattle.modules.specs.Bytes.{module_of, modules_at}
 use Rattle.modules.proofs.Lists.{length-pins, Lies, modules_end, head_read}
@@ -65,7 +59,7 @@ returns c =
     ∙ l.invariant.0 in
     let count : l.count ≡ length side = omega (arith, l.invariant.1, ap (λ (ms : List Module). length ms) none) in (
       same_tests (ap (λ (t : Tests). t.pins) all)
-          (c.both.ensures ∙ ap₂ (λ (x : Bool) (n : ℕ). x && leb n 16) (ap (λ (t : Tests). t.valid) all) count)
+          (ap₂ (λ (x : Bool) (n : ℕ). x && leb n 16) (ap (λ (t : Tests). t.valid) all) count)
           (ap (λ (t : Tests). t.within) all) (ap (λ (t : Tests). t.named) all),
       omega (arith, l.invariant.2, l.invariant.4),
     )

@@ -1,8 +1,6 @@
 -- `module_check::check_modules` meets its contract: the modules passed and the modules left make the side's.
 -- Assumes nothing.
-use Prim.Native.Nat.{◌+◌, ◌-◌, ◌≤◌}
-use mathlib.Core.Path.{◌≡◌}
-use lib.ListN.{length}
+use Rattle.std.proofs.Common.{◌≡◌, ◌+◌, ◌-◌, ◌≤◌, length}
 use Rattle.modules.specs.Bytes.{modules_at}
 use Rattle.module_check.specs.Tests.{all_tests, combined}
 use Rattle.module_check.proofs.check_modules.Given as goal

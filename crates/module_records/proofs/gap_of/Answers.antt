@@ -1,9 +1,6 @@
 -- `module_records::gap_of` meets its contract: the last pin stands just before the module's end.
 -- Assumes nothing.
-use Prim.Native.Nat.{ℕ, ◌+◌, ◌-◌, ◌*◌, ◌≤◌}
-use mathlib.Core.Path.{◌≡◌, sym, ◌∙◌, ap}
-use native.Mathlib.Omega.{arith}
-use mathlib.Core.List.{List}
+use Rattle.std.proofs.Common.{◌≡◌, ℕ, ◌+◌, ◌-◌, ◌*◌, ◌≤◌, List, sym, ap, ◌∙◌, arith}
 use Rattle.modules.specs.declared.Pin.{Pin}
 use Rattle.modules.specs.declared.Head.{Head}
 use Rattle.module_records.specs.Writable.{Writable}

@@ -1,7 +1,4 @@
-use Prim.Native.Nat.{ℕ, ◌+◌, ◌-◌, ◌<◌}
-use mathlib.Core.Path.{◌≡◌, ap}
-use mathlib.Core.List.{List}
-use native.Mathlib.Omega.{arith}
+use Rattle.std.proofs.Common.{◌≡◌, ℕ, ◌+◌, ◌-◌, ◌*◌, ◌<◌, List, ap, ◌∙◌, arith}
 use Rattle.text.specs.Writing.{Wrote}
 use Rattle.text.proofs.Writes.{same_text}
 use Rattle.terminal.specs.declared.Record.{Record}
@@ -41,31 +38,36 @@ next-left edges last b i n p r some e f left w =
 
 pub overflow_sub-distance : goal.overflow_sub-distance
 overflow_sub-distance c =
-    let h = here c.args.head c.args.side.now c.loop-left.last c.loop-left.place c.loop-left.left _ c.loop-left-test.true c.pin_at-pin.ensures
-    c.loop-left.invariant.1 in
+    let l = c.loop-i in
+    let a = c.args in
+    let h = here a.head a.side.now l.last (a.head.start + pin_size * l.i) (a.head.count - l.i) _ (omega arith) c.pin_at-pin.ensures l.invariant.1 in
     omega (arith, h.0)
 
 pub record_of-requires : goal.record_of-requires
 record_of-requires c =
-    let h = here c.args.head c.args.side.now c.loop-left.last c.loop-left.place c.loop-left.left _ c.loop-left-test.true c.pin_at-pin.ensures
-    c.loop-left.invariant.1 in
-    h.1
+    let l = c.loop-i in
+    let a = c.args in
+    (here a.head a.side.now l.last (a.head.start + pin_size * l.i) (a.head.count - l.i) _ (omega arith) c.pin_at-pin.ensures l.invariant.1).1
 
-pub put_record-end-requires : goal.put_record-end-requires
-put_record-end-requires c =
-    let l = c.loop-left in
+pub put_record-requires : goal.put_record-requires
+put_record-requires c =
+    let l = c.loop-i in
     let a = c.args in
     let all = length-later a.head.edges a.before a.side.now (a.head.start + pin_size) (a.head.count - 1) in
-    let rest = length-later a.head.edges l.last a.side.now l.place l.left in
-    omega (arith, l.invariant.0.place, l.invariant.0.size, all, rest, c.requires.2, c.loop-left-test.true)
+    let rest = length-later a.head.edges l.last a.side.now (a.head.start + pin_size * l.i) (a.head.count - l.i) in
+    omega (arith, l.invariant.0.place, l.invariant.0.size, all, rest, c.requires.2)
 
-pub loop-left-preserved : goal.loop-left-preserved
-loop-left-preserved c =
-    let l = c.loop-left in
-    let a = c.args in (
-      next-left a.head.edges l.last a.side.now l.place l.left _ _ c.loop-left-test.true
-          c.pin_at-pin.ensures c.record_of.ensures l.invariant.0 c.put_record-end.ensures,
-      (here c.args.head c.args.side.now c.loop-left.last c.loop-left.place c.loop-left.left _ c.loop-left-test.true c.pin_at-pin.ensures
-          c.loop-left.invariant.1).2,
-      omega (arith, l.invariant.2, c.loop-left-test.true),
+pub loop-i-preserved : goal.loop-i-preserved
+loop-i-preserved c =
+    let l = c.loop-i in
+    let a = c.args in
+    let at : ℕ = a.head.start + pin_size * l.i in
+    let left : ℕ = a.head.count - l.i in
+    let some : 0 < left = omega arith in
+    let next : a.head.start + pin_size * (l.i + 1) ≡ at + pin_size = omega arith in
+    let one : a.head.count - (l.i + 1) ≡ left - 1 = omega arith in
+    rw (next, one) (
+      next-left a.head.edges l.last a.side.now at left _ _ some c.pin_at-pin.ensures c.record_of.ensures l.invariant.0 c.put_record.ensures.wrote,
+      (here a.head a.side.now l.last at left _ some c.pin_at-pin.ensures l.invariant.1).2,
+      c.put_record.ensures.buffer ∙ l.invariant.2,
     )

@@ -1,11 +1,7 @@
 -- `module_records::put_module` meets its contract: the record of the first pin, then those behind it.
 -- Assumes nothing.
-use Prim.Native.Nat.{ℕ, ◌+◌, ◌-◌, ◌≤◌}
-use mathlib.Core.Path.{◌≡◌, sym, ap}
-use mathlib.Core.List.{List, ◌++◌}
-use mathlib.Core.Bool.{Bool}
-use native.Mathlib.Omega.{arith}
-use Rattle.text.proofs.Writes.{after, kept, same_text}
+use Rattle.std.proofs.Common.{◌≡◌, ℕ, ◌+◌, ◌-◌, ◌≤◌, Bool, List, ◌++◌, sym, ap, arith}
+use Rattle.text.proofs.Writes.{behind, same_written}
 use Rattle.terminal.specs.declared.Record.{Record}
 use Rattle.terminal.specs.Terminal.{record_of, terminal_of}
 use Rattle.encode.specs.Encode.{record_bytes, section_bytes}
@@ -54,15 +50,15 @@ record_of-requires c =
 
 pub put_inner-requires : goal.put_inner-requires
 put_inner-requires c =
-    let wrote = c.put_record-end.ensures in
+    let wrote = c.put_record.ensures in
     let f = first c.args.side.now c.args.head _ c.requires.0 c.pin_at-pin.ensures in
-    (f.0, c.requires.2, omega (arith, f.0, c.requires.3, wrote.place, kept wrote), f.2)
+    (f.0, c.requires.2, omega (arith, f.0, c.requires.3, wrote.wrote.place, wrote.room), f.2)
 
 pub returns : goal.returns
 returns c =
     let a = c.args in
-    same_text
+    same_written
     (module-bytes a.side.now a.head a.first a.gap _ _ _ _ (first c.args.side.now c.args.head _ c.requires.0 c.pin_at-pin.ensures).0 c.pin_at-pin.ensures
     c.first_least-least.ensures c.first_greatest-greatest.ensures
     c.record_of.ensures)
-    (after c.put_record-end.ensures c.put_inner.ensures)
+    (behind c.put_record.ensures c.put_inner.ensures)

@@ -1,9 +1,4 @@
-use Prim.Native.Nat.{ℕ, ◌<◌}
-use mathlib.Core.Path.{◌≡◌, sym, ap}
-use mathlib.Core.List.{List, ◌∷◌}
-use mathlib.Core.Bool.{Bool, false}
-use native.Mathlib.Omega.{arith}
-use lib.ListN.{length}
+use Rattle.std.proofs.Common.{◌≡◌, ℕ, ◌<◌, Bool, false, List, ◌∷◌, length, sym, ap, ◌∙◌, arith}
 use Rattle.text.specs.Writing.{Wrote}
 use Rattle.encode.specs.Encode.{section_bytes}
 use Rattle.encode.proofs.Left.{Left, none_left, less-left}
@@ -39,8 +34,8 @@ next-left first gap m ms ns e g left w =
     rw g
     (less-left (rw (e, section-append (module_terminals first gap m) (terminals_behind false (gap_of m) ms)) at left) w)
 
-pub put_module-end-requires : goal.put_module-end-requires
-put_module-end-requires c =
+pub put_module-requires : goal.put_module-requires
+put_module-requires c =
     let l = c.loop-place in
     let b = c.args.side.now in
     let head = c.head_in-head.result in
@@ -81,14 +76,15 @@ loop-place-preserved c =
     let l = c.loop-place in
     let (lies, list, one, rest) = here c.args.side.now c.loop-place.place c.head_in-head.result c.head_in-head.ensures c.loop-place-test.true
     c.loop-place.invariant.1 in (
-      next-left l.first l.gap _ _ _ list c.gap_of-gap.ensures l.invariant.0 c.put_module-end.ensures,
+      next-left l.first l.gap _ _ _ list c.gap_of-gap.ensures l.invariant.0 c.put_module.ensures.wrote,
       rest,
       omega (arith, c.gap_of-gap.ensures, one.0.0),
       lies.inside,
+      c.put_module.ensures.buffer ∙ l.invariant.4,
     )
 
 pub returns : goal.returns
 returns c =
     let l = c.loop-place in
     let none = modules_end c.args.side.now l.place c.loop-place-test.false in
-    none_left (rw none at l.invariant.0)
+    record { wrote = none_left (rw none at l.invariant.0); buffer = l.invariant.4; room = l.invariant.0.size }

@@ -1,15 +1,15 @@
 -- `module_sheet::make` meets its contract: a refusal leaves the buffer, and what is written is the sheet meant.
 -- Assumes nothing.
-use mathlib.Core.Path.{◌≡◌, sym, ◌∙◌, ap}
+use Rattle.std.proofs.Common.{rules, sym, ap}
 use native.Mathlib.Omega.{arith}
 use lib.ListN.{length}
 use borrow.Author.Tests.{le-leb, lt-leb}
 use Rattle.modules.specs.Bytes.{modules_in}
 use Rattle.module_check.specs.declared.Tests.{Tests}
 use Rattle.made.specs.Numbers.{number_of}
-use Rattle.module_sheet.specs.Answer.{answer_in, made_of}
+use Rattle.module_sheet.specs.Answer.{answer_in}
 use Rattle.module_sheet.proofs.Accepted.{Accepted, accepted, all_writable}
-use Rattle.module_sheet.proofs.Making.{made_of_lem, makes_none, makes_sheet}
+use Rattle.module_sheet.proofs.Making.{made_of_lem, module_number_some, makes_none, makes_sheet}
 use Rattle.module_sheet.proofs.make.Goals as goal
 
 -- 3
@@ -29,11 +29,10 @@ returns-then-columns-gt64 c =
 pub put_sheet-requires : goal.put_sheet-requires
 put_sheet-requires c =
     let a = c.args in
-    let answer : c.answer-made.result ≡ made_of c.args.columns c.args.top.now c.args.bottom.now (length c.args.sheet.now)
-    = made_of_lem _ _ _ _ _ _ _ _ (omega (arith, c.if-columns-eq0.false)) c.if-columns-gt64.false c.check_modules-over.ensures.0
-    c.check_modules-under.ensures.0 c.combine.ensures c.answer-made.ensures in
+    let answer = made_of_lem _ _ _ _ _ _ _ _ (omega (arith, c.if-columns-eq0.false)) c.if-columns-gt64.false c.check_modules-over.ensures.0
+    c.check_modules-under.ensures.0 c.combine.ensures c.in_ok-size.ensures in
     let ok : Accepted c.args.columns (modules_in c.args.top.now) (modules_in c.args.bottom.now) (length c.args.sheet.now)
-    = accepted _ _ _ _ (ap number_of (sym answer) ∙ sym c.number_of.ensures ∙ c.if-number_of-eq0.true) in
+    = accepted _ _ _ _ (ap number_of (sym answer)) in
     let top = ap (λ (t : Tests). t.pins) c.check_modules-over.ensures.0 in
     let bottom = ap (λ (t : Tests). t.pins) c.check_modules-under.ensures.0 in (
       all_writable a.columns ok.columns.1 (modules_in a.top.now) ok.valid.0 ok.within.0,
@@ -44,18 +43,16 @@ put_sheet-requires c =
       omega (arith, top, bottom, ok.size),
     )
 
-pub returns-then-number_of-eq0 : goal.returns-then-number_of-eq0
-returns-then-number_of-eq0 c =
-    let answer : c.answer-made.result ≡ made_of c.args.columns c.args.top.now c.args.bottom.now (length c.args.sheet.now)
-    = made_of_lem _ _ _ _ _ _ _ _ (omega (arith, c.if-columns-eq0.false)) c.if-columns-gt64.false c.check_modules-over.ensures.0
-    c.check_modules-under.ensures.0 c.combine.ensures c.answer-made.ensures in
+pub returns : goal.returns
+returns c =
+    let answer = made_of_lem _ _ _ _ _ _ _ _ (omega (arith, c.if-columns-eq0.false)) c.if-columns-gt64.false c.check_modules-over.ensures.0
+    c.check_modules-under.ensures.0 c.combine.ensures c.in_ok-size.ensures in
     let ok : Accepted c.args.columns (modules_in c.args.top.now) (modules_in c.args.bottom.now) (length c.args.sheet.now)
-    = accepted _ _ _ _ (ap number_of (sym answer) ∙ sym c.number_of.ensures ∙ c.if-number_of-eq0.true) in
+    = accepted _ _ _ _ (ap number_of (sym answer)) in
     makes_sheet _ _ _ _ _ _ _ (λ i. (c.type_inv.top i).fits) (λ i. (c.type_inv.bottom i).fits) answer ok c.put_sheet.ensures
 
-pub returns-else-number_of-eq0 : goal.returns-else-number_of-eq0
-returns-else-number_of-eq0 c =
-    let answer : c.answer-made.result ≡ made_of c.args.columns c.args.top.now c.args.bottom.now (length c.args.sheet.now)
-    = made_of_lem _ _ _ _ _ _ _ _ (omega (arith, c.if-columns-eq0.false)) c.if-columns-gt64.false c.check_modules-over.ensures.0
-    c.check_modules-under.ensures.0 c.combine.ensures c.answer-made.ensures in
-    makes_none _ _ _ _ _ answer (λ e. c.if-number_of-eq0.false (c.number_of.ensures ∙ e))
+pub returns-in_err-size : goal.returns-in_err-size
+returns-in_err-size c =
+    let answer = made_of_lem _ _ _ _ _ _ _ _ (omega (arith, c.if-columns-eq0.false)) c.if-columns-gt64.false c.check_modules-over.ensures.0
+    c.check_modules-under.ensures.0 c.combine.ensures c.in_err-size.ensures in
+    let none = makes_none _ _ _ _ _ answer (module_number_some _) in search rules

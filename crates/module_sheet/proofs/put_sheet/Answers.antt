@@ -1,11 +1,12 @@
 -- `module_sheet::put_sheet` meets its contract: the top section, the bottom section behind it, then the trailer.
 -- Assumes nothing.
+use Rattle.std.proofs.Common.{rules}
 use Prim.Native.Nat.{ℕ, ◌*◌}
 use mathlib.Core.Path.{◌≡◌, sym, ◌∙◌, ap, ap₂}
 use mathlib.Core.List.{List, ◌++◌}
 use native.Mathlib.Omega.{arith}
 use lib.ListN.{length}
-use Rattle.text.proofs.Writes.{after, kept, same_text}
+use Rattle.text.proofs.Writes.{behind, same_written}
 use Rattle.trailer.specs.Trailer.{CP}
 use Rattle.format.specs.Format.{record_size}
 use Rattle.encode.specs.Encode.{section_bytes, trailer_bytes, top_first, sheet_bytes}
@@ -29,23 +30,23 @@ sheet-bytes l p q top bottom e f =
     ap₂ (λ (m n : ℕ). section_bytes (side_terminals top) ++ section_bytes (side_terminals bottom) ++ trailer_bytes (top_first l m n) CP)
     (e ∙ sym (length-terminals top)) (f ∙ sym (length-terminals bottom))
 
-pub put_modules-end-requires : goal.put_modules-end-requires
-put_modules-end-requires c =
-    let top = c.put_modules-middle.ensures in (
+pub put_modules-requires-2 : goal.put_modules-requires-2
+put_modules-requires-2 c =
+    let top = c.put_modules.ensures in (
       c.requires.1,
-      omega (arith, top.place, kept top, length-side (modules_in c.args.top.now), c.requires.2, c.requires.3, c.requires.5),
+      omega (arith, top.wrote.place, top.room, length-side (modules_in c.args.top.now), c.requires.2, c.requires.3, c.requires.5),
     )
 
 pub put_trailer-requires : goal.put_trailer-requires
 put_trailer-requires c =
-    let top = c.put_modules-middle.ensures in
-    let bottom = c.put_modules-end.ensures in
+    let top = c.put_modules.ensures in
+    let bottom = c.put_modules-2.ensures in
     omega (
       arith,
-      top.place,
-      kept top,
-      bottom.place,
-      kept bottom,
+      top.wrote.place,
+      top.room,
+      bottom.wrote.place,
+      bottom.room,
       length-side (modules_in c.args.top.now),
       length-side (modules_in c.args.bottom.now),
       c.requires.2,
@@ -56,6 +57,8 @@ put_trailer-requires c =
 pub returns : goal.returns
 returns c =
     let a = c.args in
-    same_text
+    let written =
+    same_written
     (sheet-bytes a.columns a.p a.q (modules_in a.top.now) (modules_in a.bottom.now) c.requires.2 c.requires.3)
-    (after (after c.put_modules-middle.ensures c.put_modules-end.ensures) c.put_trailer.ensures)
+    (behind (behind c.put_modules.ensures c.put_modules-2.ensures) c.put_trailer.ensures) in
+    search rules

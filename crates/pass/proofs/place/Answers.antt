@@ -1,7 +1,6 @@
 -- `pass::place` meets its contract: no bound below the first one tried places all pins, so that where it does, it is the least.
 -- Assumes nothing.
-use mathlib.Core.Path.{◌∙◌, sym}
-use native.Mathlib.Omega.{arith}
+use Rattle.std.proofs.Common.{◌∙◌, sym, arith}
 use Rattle.pass.proofs.Passes.{below_lower}
 use Rattle.pass.proofs.place.Goals as goal
 
@@ -13,7 +12,7 @@ returns-then-try_bound c =
       came = (
         record {
           holds = sym tried.answer ∙ c.if-try_bound.true;
-          smaller = λ e l. below_lower a.rules.now a.loads.now a.plan e (omega (arith, l, c.lower_bound-bound.ensures));
+          smaller = λ e l. below_lower a.rules.now.words a.loads.now.bytes a.plan e (omega (arith, l, c.lower_bound-bound.ensures));
         },
         c.walk.ensures,
       );

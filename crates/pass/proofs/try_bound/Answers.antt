@@ -1,7 +1,6 @@
 -- `pass::try_bound` meets its contract: the filled table's last plane answers.
 -- Assumes nothing.
-use mathlib.Core.Path.{◌∙◌}
-use native.Mathlib.Omega.{arith}
+use Rattle.std.proofs.Common.{◌∙◌, arith}
 use Rattle.pass.proofs.Passes.{last_plane}
 use Rattle.pass.proofs.try_bound.Goals as goal
 
@@ -11,7 +10,7 @@ returns c =
     record {
       answer =
           c.meets.ensures
-          ∙ last_plane a.rules.now a.loads.now a.plan a.bound _ _ _ _ c.fill.ensures
+          ∙ last_plane a.rules.now.words a.loads.now.bytes a.plan a.bound _ _ _ _ c.fill.ensures
           (omega (arith, c.requires.lies.bottoms)) c.requires.lies.table.sizes.rows.1
           c.below.ensures (omega (arith, c.requires.lies.rows));
       table = c.fill.ensures;

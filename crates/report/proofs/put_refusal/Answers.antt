@@ -1,7 +1,6 @@
--- `report::put_refusal` meets its contract: the name and number, then the line's end.
--- Assumes nothing.
-use Rattle.text.proofs.Writes.{after}
+-- The name and number, then the line's end.
+use Rattle.text.proofs.Writes.{behind}
 use Rattle.report.proofs.put_refusal.Goals as goal
 
 pub returns-clause-wrote : goal.returns-clause-wrote
-returns-clause-wrote c = after c.put_field-end.ensures.wrote c.put_byte.ensures
+returns-clause-wrote c = behind c.put_field.ensures.wrote c.put_byte.ensures

@@ -3,7 +3,7 @@
 use mathlib.Core.Path.{sym}
 use native.Mathlib.Omega.{arith}
 use lib.Seq.{length-take-le}
-use Rattle.text.proofs.Writes.{after, same_text}
+use Rattle.text.proofs.Writes.{behind, same_written}
 use Rattle.report.proofs.Sides.{pins-count, side-lines}
 use Rattle.report.proofs.put_sides.Goals as goal
 
@@ -20,6 +20,6 @@ slice_bounds-put_side-start c = pins-count c.args.input.now c.args.layout c.requ
 
 pub returns-clause-wrote : goal.returns-clause-wrote
 returns-clause-wrote c =
-    same_text (side-lines c.args.input.now c.args.layout c.requires.0 c.args.columns.now c.requires.1 _ _
+    same_written (side-lines c.args.input.now c.args.layout c.requires.0 c.args.columns.now c.requires.1 _ _
     c.part_in-top.ensures.bytes
-    c.part_in-bottom.ensures.bytes) (after c.put_side-middle.ensures.wrote c.put_side.ensures.wrote)
+    c.part_in-bottom.ensures.bytes) (behind c.put_side.ensures.wrote c.put_side-2.ensures.wrote)

@@ -13,22 +13,22 @@ returns-then-work-shape c =
     let a = c.args in
     answers-cells a.s.now a.columns.now a.work.now a.layout c.requires c.if-columns-shape.false c.if-work-shape.true
 
-pub solve-outcome-requires : goal.solve-outcome-requires
-solve-outcome-requires c =
+pub solve-least-requires : goal.solve-least-requires
+solve-least-requires c =
     let a = c.args in
     solve-asked a.s.now a.columns.now a.work.now a.layout c.requires _ _ c.part_in-top.ensures.bytes
     c.part_in-bottom.ensures.bytes c.if-columns-shape.false c.if-work-shape.false
 
-pub returns-in-Least : goal.returns-in-Least
-returns-in-Least c =
+pub returns-in-Some : goal.returns-in-Some
+returns-in-Some c =
     let a = c.args in
     answers-found a.s.now a.columns.now a.work.now a.layout c.requires _ _ c.part_in-top.ensures.bytes
-    c.part_in-bottom.ensures.bytes c.if-columns-shape.false c.if-work-shape.false _ _ _ c.solve-outcome.ensures _
-    c.in-Least.is
+    c.part_in-bottom.ensures.bytes c.if-columns-shape.false c.if-work-shape.false _ _ _ c.solve-least.ensures _
+    c.in-Some.is
 
-pub returns-in-Nothing : goal.returns-in-Nothing
-returns-in-Nothing c =
+pub returns-in-None : goal.returns-in-None
+returns-in-None c =
     let a = c.args in
     answers-none a.s.now a.columns.now a.work.now a.layout c.requires _ _ c.part_in-top.ensures.bytes
-    c.part_in-bottom.ensures.bytes c.if-columns-shape.false c.if-work-shape.false _ _ _ c.solve-outcome.ensures
-    c.in-Nothing.is
+    c.part_in-bottom.ensures.bytes c.if-columns-shape.false c.if-work-shape.false _ _ _ c.solve-least.ensures
+    c.in-None.is

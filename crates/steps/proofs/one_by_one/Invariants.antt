@@ -2,9 +2,7 @@
 -- that are left.
 -- The measure is the number that those bits make.
 -- Assumes nothing.
-use Prim.Native.Nat.{ℕ, ◌<◌}
-use mathlib.Core.Path.{◌≡◌}
-use mathlib.Core.Bool.{◌||◌}
+use Rattle.std.proofs.Common.{ℕ, ◌<◌, ◌≡◌, ◌||◌}
 use Rattle.bits.specs.Bits.{bit_of}
 use Rattle.steps.specs.Stepped.{stepped}
 use Rattle.steps.proofs.one_by_one.Given as goal

@@ -1,6 +1,4 @@
-use Prim.Native.Nat.{ℕ, ◌-◌}
-use mathlib.Core.Path.{◌∙◌, ap}
-use native.Mathlib.Omega.{arith}
+use Rattle.std.proofs.Common.{ℕ, ◌-◌, ◌∙◌, ap, arith}
 use Rattle.steps.specs.Stepped.{covered}
 use Rattle.steps.proofs.Stepped.{covered_one, spread-more}
 use Rattle.steps.proofs.spread.Goals as goal

@@ -1,7 +1,6 @@
 -- `steps::spread` meets its contract. The loop's invariant: what is found is what is less than `done` above a number of w.
 -- Assumes nothing.
-use Prim.Native.Nat.{ℕ, ◌-◌, ◌≤◌, ◌<◌}
-use mathlib.Core.Path.{◌≡◌}
+use Rattle.std.proofs.Common.{ℕ, ◌-◌, ◌≤◌, ◌<◌, ◌≡◌}
 use Rattle.bits.specs.Bits.{bit_of}
 use Rattle.steps.specs.Stepped.{covered}
 use Rattle.steps.proofs.spread.Given as goal

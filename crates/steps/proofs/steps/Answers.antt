@@ -1,7 +1,6 @@
 -- `steps::steps` meets its contract: where the steps have no end, everything behind the first is reached.
 -- Assumes nothing.
-use Prim.Native.Nat.{ℕ}
-use mathlib.Core.Path.{◌∙◌, ap}
+use Rattle.std.proofs.Common.{ℕ, ◌∙◌, ap}
 use Rattle.bits.specs.Bits.{bit_of}
 use Rattle.steps.proofs.Stepped.{stepped-open}
 use Rattle.steps.proofs.steps.Goals as goal

@@ -1,6 +1,8 @@
 -- `tracks::route_nets` meets its contract: 18, then 9, then the spans of the nets in order.
 -- Assumes nothing.
 use Prim.Native.Nat.{ℕ, ◌≤◌, ◌<◌, ◌^◌}
+use Rattle.std.proofs.Common.{Ok, Err, refl}
+use Rattle.tracked.specs.declared.TrackRefusal.TheVariants.{TwoNets, SpanBuffer}
 use mathlib.Core.Path.{◌≡◌, sym, ◌∙◌, ap, subst}
 use mathlib.Core.List.{List, map, ◌++◌}
 use native.Mathlib.Omega.{arith}
@@ -50,15 +52,15 @@ module _ (l : ℕ) (nets columns : List ℕ) (pre : Columns nets columns l) (fit
 
 pub returns-then-two_nets : goal.returns-then-two_nets
 returns-then-two_nets c =
-    gives_two_nets _ _ _ _ (sym c.two_nets.ensures ∙ c.if-two_nets.true) c.refused.ensures
+    gives_two_nets _ _ _ (Err TwoNets) (sym c.two_nets.ensures ∙ c.if-two_nets.true) (refl, refl)
 
 pub returns-then-room-count : goal.returns-then-room-count
 returns-then-room-count c =
     let a = c.args in
     let o = c.order_nets-count in
     let n = count a.l a.nets.now a.columns.now c.requires.0 (λ i. (c.type_inv.nets i).fits) o.result o.new.order o.ensures.count o.ensures.order in
-    gives-short _ _ _ _ (sym c.two_nets.ensures ∙ c.if-two_nets.false) (omega (arith, c.if-room-count.true, n))
-    c.refused-then-room-count.ensures
+    gives-short _ _ _ (Err SpanBuffer) (sym c.two_nets.ensures ∙ c.if-two_nets.false) (omega (arith, c.if-room-count.true, n))
+    (refl, refl)
 
 pub route_keys-requires : goal.route_keys-requires
 route_keys-requires c =
@@ -75,5 +77,5 @@ returns c =
     let n = count a.l a.nets.now a.columns.now c.requires.0 (λ i. (c.type_inv.nets i).fits) o.result o.new.order o.ensures.count o.ensures.order in
     let all = size a.l a.nets.now a.columns.now c.requires.0 (λ i. (c.type_inv.nets i).fits) o.result o.new.order o.ensures.count o.ensures.order ∙ n in
     let spans = edge a.l a.nets.now a.columns.now c.requires.0 (λ i. (c.type_inv.nets i).fits) o.result o.new.order o.ensures.count o.ensures.order in
-    gives-tracks _ _ _ _ (sym c.two_nets.ensures ∙ c.if-two_nets.false) (omega (arith, c.if-room-count.false, n))
-    (c.route_keys.ensures.answer ∙ rw (all, spans)) (c.route_keys.ensures.spans ∙ rw (all, spans))
+    gives-tracks _ _ _ (Ok c.route_keys.result) (sym c.two_nets.ensures ∙ c.if-two_nets.false) (omega (arith, c.if-room-count.false, n))
+    (ap Ok (c.route_keys.ensures.counts ∙ rw (all, spans))) (c.route_keys.ensures.spans ∙ rw (all, spans))

@@ -1,7 +1,6 @@
 -- `tracks::two_nets` meets its contract. The loop's invariant: a column has pins of two nets exactly if one was found so far, or a pin that
--- is left stands where one of another net was seen. The measure is how many are left.
+-- is left stands where one of another net was seen.
 -- Assumes nothing.
-use Prim.Native.Nat.{◌-◌}
 use mathlib.Core.Path.{◌≡◌}
 use mathlib.Core.Bool.{◌||◌}
 use lib.ListN.{length, drop}
@@ -13,6 +12,3 @@ use Rattle.tracks.proofs.two_nets.Given as goal
 abbrev pub invariant-loop-i : goal.invariant-loop-i
 invariant-loop-i l = (length l.seen ≡ 256)
     × (two_nets (pins_of l.nets l.columns) ≡ (l.found || comes l.seen (pins_of (drop l.i l.nets) (drop l.i l.columns))))
-
-abbrev pub decreases-loop-i : goal.decreases-loop-i
-decreases-loop-i l = length l.nets - l.i

@@ -1,6 +1,6 @@
 -- `trailer::read_trailer` meets its contract: each number is what its call gave.
 -- Assumes nothing.
-use native.Mathlib.Omega.{arith}
+use Rattle.std.proofs.Common.{arith}
 use Rattle.trailer.specs.Trailer.{trailer_of}
 use Rattle.trailer.proofs.read_trailer.Goals as goal
 

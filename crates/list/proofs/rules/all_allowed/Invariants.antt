@@ -1,17 +1,11 @@
--- `measure::all_allowed` meets its contract. The loop's invariant: what is still to be said of the side is said by the places that are
+-- `list::all_allowed` meets its contract. The loop's invariant: what is still to be said of the side is said by the places that are
 -- left.
--- The measure is how many they are.
 -- Assumes nothing.
-use Prim.Native.Nat.{◌-◌, ◌≤◌}
 use mathlib.Core.Path.{◌≡◌}
-use lib.ListN.{length, drop}
+use lib.ListN.{drop}
 use Rattle.format.specs.Parts.{terminals_in}
 use Rattle.list.specs.Answer.{side_allowed}
 use Rattle.list.proofs.rules.all_allowed.Given as goal
 
 abbrev pub invariant-loop-i : goal.invariant-loop-i
-invariant-loop-i l = (l.i ≤ length l.columns)
-    × (side_allowed (terminals_in l.part) l.columns ≡ side_allowed (drop l.i (terminals_in l.part)) (drop l.i l.columns))
-
-abbrev pub decreases-loop-i : goal.decreases-loop-i
-decreases-loop-i l = length l.columns - l.i
+invariant-loop-i l = side_allowed (terminals_in l.part) l.columns ≡ side_allowed (drop l.i (terminals_in l.part)) (drop l.i l.columns)

@@ -1,10 +1,10 @@
 -- `sheet::layout_of` meets its contract: the trailer's numbers, which are within their limits.
 -- Assumes nothing.
+use Rattle.std.proofs.Common.{Ok}
 use Prim.Native.Nat.{ℕ}
 use mathlib.Core.Path.{◌≡◌}
 use mathlib.Core.List.{List}
 use Rattle.trailer.specs.declared.Trailer.{Trailer}
-use Rattle.refusals.specs.declared.Checked.TheVariants.{Sound}
 use Rattle.soundness.specs.Check.{check_of}
 use Rattle.trailer.specs.Trailer.{trailer_of, TrailerRead}
 use Rattle.sheet.specs.Parts.{layout_of}
@@ -12,7 +12,7 @@ use Rattle.sheet.proofs.Sections.{sound_form, sound-limits}
 use Rattle.sheet.proofs.parts.layout_of.Goals as goal
 
 -- a sheet that the check leaves has its trailer's bytes
-trailer : (b : List ℕ) (t : Trailer) → TrailerRead b t → check_of b ≡ Sound → t ≡ trailer_of b
+trailer : (b : List ℕ) (t : Trailer) → TrailerRead b t → check_of b ≡ Ok tt → t ≡ trailer_of b
 trailer b t told sounds = told.long (sound_form b sounds).long
 
 pub cells_needed-requires : goal.cells_needed-requires

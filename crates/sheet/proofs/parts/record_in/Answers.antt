@@ -1,8 +1,8 @@
 -- `sheet::record_in` meets its contract: a place of the section is a record of it, and any other is nothing.
 -- Assumes nothing.
+use Rattle.std.proofs.Common.{Some}
 use mathlib.Core.Path.{◌∙◌, ap}
 use native.Mathlib.Omega.{arith}
-use Rattle.sheet.specs.declared.Entry.TheVariants.{Terminal}
 use Rattle.sheet.specs.Parts.{entry_in}
 use Rattle.sheet.proofs.Sections.{entry_found, entry-nothing}
 use Rattle.sheet.proofs.parts.record_in.Goals as goal
@@ -13,7 +13,7 @@ returns-then-place-eq0 c = rw c.if-place-eq0.true
 
 pub returns-then-i-count_in : goal.returns-then-i-count_in
 returns-then-i-count_in c =
-    ap Terminal c.terminal_at.ensures
+    ap Some c.terminal_at.ensures
     ∙ entry_found _ _ c.if-place-eq0.false (omega (arith, c.count_in.ensures, c.if-i-count_in.true))
 
 pub returns-else-i-count_in : goal.returns-else-i-count_in

@@ -1,6 +1,4 @@
-use Prim.Native.Nat.{ℕ, ◌+◌}
-use mathlib.Core.Path.{◌∙◌, ap}
-use native.Mathlib.Omega.{arith}
+use Rattle.std.proofs.Common.{ℕ, ◌+◌, ◌∙◌, ap, arith}
 use Rattle.table.proofs.Planes.{filled_then, row_next}
 use Rattle.table.proofs.plane.fill.Goals as goal
 
@@ -8,7 +6,6 @@ pub loop-i-preserved : goal.loop-i-preserved
 loop-i-preserved c =
     let a = c.args in
     let l = c.loop-i in (
-      omega (arith, c.loop-i-test.true),
-      ap (λ (k : ℕ). k + a.grid.stride) l.invariant.1 ∙ row_next a.grid l.i,
-      filled_then l.invariant.2 c.fill_row.ensures (omega arith),
+      ap (λ (k : ℕ). k + a.grid.stride) l.invariant.0 ∙ row_next a.grid l.i,
+      filled_then l.invariant.1 c.fill_row.ensures (omega arith),
     )

@@ -1,6 +1,4 @@
-use Prim.Native.Nat.{ℕ, ◌+◌}
-use mathlib.Core.Path.{◌∙◌, ap}
-use native.Mathlib.Omega.{arith}
+use Rattle.std.proofs.Common.{ℕ, ◌+◌, ◌∙◌, ap, arith}
 use Rattle.table.proofs.Planes.{filled_then, plane_next}
 use Rattle.table.proofs.plane.fill_row.Goals as goal
 
@@ -8,7 +6,6 @@ pub loop-j-preserved : goal.loop-j-preserved
 loop-j-preserved c =
     let a = c.args in
     let l = c.loop-j in (
-      omega (arith, c.loop-j-test.true),
-      ap (λ (k : ℕ). k + a.grid.size) l.invariant.1 ∙ plane_next a.grid a.i l.j,
-      filled_then l.invariant.2 c.fill_plane.ensures (omega arith),
+      ap (λ (k : ℕ). k + a.grid.size) l.invariant.0 ∙ plane_next a.grid a.i l.j,
+      filled_then l.invariant.1 c.fill_plane.ensures (omega arith),
     )

@@ -1,8 +1,4 @@
-use Prim.Native.Nat.{ℕ, suc, ◌-◌}
-use mathlib.Core.Path.{◌≡◌, ◌∙◌, sym, ap}
-use mathlib.Core.Bool.{◌&&◌}
-use native.Mathlib.Omega.{arith}
-use lib.Dec.{leb}
+use Rattle.std.proofs.Common.{ℕ, suc, ◌-◌, ◌≡◌, ◌∙◌, sym, ap, ◌&&◌, arith, leb}
 use Rattle.bits.specs.Bits.{bit_of, in_word}
 use Rattle.table.specs.Planes.{held_at, meeting}
 use Rattle.table.proofs.Unions.{none_before, row_misses, row_skipped, row_meets_lem, none-meets}
@@ -11,12 +7,9 @@ use Rattle.table.proofs.query.meets.Goals.{then-bit+else-both-ne0, else-bit}
 
 pub loop-x-init : goal.loop-x-init
 loop-x-init c =
-    let a = c.args in (
-      omega arith,
-      omega arith,
-      none_before a.low (λ (m : ℕ). bit_of a.by (a.next - m))
-          (λ (m y : ℕ). held_at a.work.now a.grid a.i a.j m y && bit_of a.mask y),
-    )
+    let a = c.args in
+    none_before a.low (λ (m : ℕ). bit_of a.by (a.next - m))
+    (λ (m y : ℕ). held_at a.work.now a.grid a.i a.j m y && bit_of a.mask y)
 
 pub returns-then-both-ne0 : goal.returns-then-both-ne0
 unfolding meeting
@@ -24,7 +17,7 @@ returns-then-both-ne0 c =
     let a = c.args in
     let l = c.loop-x in
     row_meets_lem a.low a.high l.x (λ (m : ℕ). bit_of a.by (a.next - m))
-    (λ (m y : ℕ). held_at a.work.now a.grid a.i a.j m y && bit_of a.mask y) l.invariant.0 c.loop-x-test.true
+    (λ (m y : ℕ). held_at a.work.now a.grid a.i a.j m y && bit_of a.mask y) (omega arith) (omega arith)
     (sym c.bit.ensures ∙ c.if-bit.true)
     c.both.result (omega (arith, c.both.type_inv)) c.if-both-ne0.true
     (λ y. c.both.ensures y ∙ ap (λ (w : ℕ). bit_of w y && bit_of a.mask y) c.read_word.ensures)
@@ -32,18 +25,15 @@ returns-then-both-ne0 c =
 pub loop-x-preserved : goal.loop-x-preserved
 loop-x-preserved c =
     let a = c.args in
-    let l = c.loop-x in (
-      omega arith,
-      omega arith,
-      elim c.if-bit.branch [
-        | then-bit+else-both-ne0 w ↦ row_misses a.low l.x (λ (m : ℕ). bit_of a.by (a.next - m))
-            (λ (m y : ℕ). held_at a.work.now a.grid a.i a.j m y && bit_of a.mask y) w.both.result w.if-both-ne0.false
-            (λ y. w.both.ensures y ∙ ap (λ (v : ℕ). bit_of v y && bit_of a.mask y) w.read_word.ensures) l.invariant.2
-        | else-bit w ↦ row_skipped a.low l.x (λ (m : ℕ). bit_of a.by (a.next - m))
-            (λ (m y : ℕ). held_at a.work.now a.grid a.i a.j m y && bit_of a.mask y) (sym c.bit.ensures ∙ w.if-bit.false)
-            l.invariant.2
-      ],
-    )
+    let l = c.loop-x in
+    elim c.if-bit.branch [
+      | then-bit+else-both-ne0 w ↦ row_misses a.low l.x (λ (m : ℕ). bit_of a.by (a.next - m))
+          (λ (m y : ℕ). held_at a.work.now a.grid a.i a.j m y && bit_of a.mask y) w.both.result w.if-both-ne0.false
+          (λ y. w.both.ensures y ∙ ap (λ (v : ℕ). bit_of v y && bit_of a.mask y) w.read_word.ensures) l.invariant
+      | else-bit w ↦ row_skipped a.low l.x (λ (m : ℕ). bit_of a.by (a.next - m))
+          (λ (m y : ℕ). held_at a.work.now a.grid a.i a.j m y && bit_of a.mask y) (sym c.bit.ensures ∙ w.if-bit.false)
+          l.invariant
+    ]
 
 pub returns : goal.returns
 unfolding meeting
@@ -54,4 +44,4 @@ returns c =
     none-meets (λ (m : ℕ). leb a.low m &&
     (bit_of a.by (a.next - m) && in_word (λ (y : ℕ). held_at a.work.now a.grid a.i a.j m y && bit_of a.mask y)))
     l.x (suc a.high) end
-    l.invariant.2
+    l.invariant

@@ -1,6 +1,6 @@
 -- `terminal::allows` meets its contract: column 0 and columns above 64 are in no set, and of the others the shifted set's last bit says it.
 -- Assumes nothing.
-use mathlib.Core.Path.{sym}
+use Rattle.std.proofs.Common.{sym}
 use Rattle.channel.proofs.Sets.{allows-below}
 use Rattle.terminal.proofs.columns.allows.Goals as goal
 

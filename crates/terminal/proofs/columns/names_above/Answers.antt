@@ -1,8 +1,6 @@
 -- `terminal::names_above` meets its contract: a set of 64 bits names no column above 64, and below that the shifted set says it.
 -- Assumes nothing.
-use mathlib.Core.Path.{sym}
-use native.Mathlib.Nat.{lt_of_lt_of_le}
-use lib.Pow.{pow_mono}
+use Rattle.std.proofs.Common.{sym, lt_of_lt_of_le, pow_mono}
 use borrow.Author.Tests.{lt-leb}
 use Rattle.channel.proofs.Sets.{names_above_quotient}
 use Rattle.terminal.proofs.columns.names_above.Goals as goal

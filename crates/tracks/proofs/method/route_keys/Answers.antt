@@ -7,12 +7,12 @@ use Rattle.tracks.proofs.method.route_keys.Goals as goal
 
 pub loop-i-init : goal.loop-i-init
 loop-i-init c =
-    (omega arith, on_none c.args.keys.now c.requires.0 c.requires.1)
+    on_none c.args.keys.now c.requires.0 c.requires.1
 
 pub take_track-track-requires : goal.take_track-track-requires
 take_track-track-requires c =
-    let p = c.loop-i.invariant.1 in (
-      free c.args.keys.now c.requires.0 c.requires.1 p c.loop-i-test.true c.interval_at-x.result
+    let p = c.loop-i.invariant in (
+      free c.args.keys.now c.requires.0 c.requires.1 p (omega arith) c.interval_at-x.result
           c.interval_at-x.ensures,
       omega (arith, p.slots),
     )
@@ -23,8 +23,8 @@ loop-i-preserved c =
     let track = c.take_track-track.ensures.track in
     let ends = c.take_track-track.ensures.ends in
     let p =
-    on-next c.args.keys.now c.requires.0 c.requires.1 c.loop-i.invariant.1 c.loop-i-test.true x
+    on-next c.args.keys.now c.requires.0 c.requires.1 c.loop-i.invariant (omega arith) x
     c.interval_at-x.ensures in
     let span = c.span_on.ensures ∙ ap (λ (t : ℕ). record { net = x.net; left = x.left; right = x.right; track = t }) track in
-    let tracks = c.larger-tracks.ensures ∙ ap (max c.loop-i.tracks) track in
-    (omega arith, rw (span, ends, tracks) p)
+    let tracks = c.max-tracks.ensures ∙ ap (max c.loop-i.tracks) track in
+    rw (span, ends, tracks) p

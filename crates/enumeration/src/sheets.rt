@@ -1,0 +1,48 @@
+// A small sheet, and a list of columns for its terminals.
+ghost use Rattle.std.specs.Prelude.{◌≤◌, length};
+
+use arrayvec::ArrayVec;
+use terminal::Record;
+
+// The most terminals of a sheet, and the most columns of a list.
+pub const ROOM: usize = 9;
+
+pub type List = [u8; ROOM];
+
+pub type Nets = ArrayVec<u16, ROOM>;
+
+// L, p, q, and the terminals, top before bottom.
+#[derive(Clone, Copy)]
+pub struct Sheet {
+    pub columns: u8,
+    pub top: u8,
+    pub bottom: u8,
+    pub records: [Record; ROOM],
+}
+
+impl Sheet {
+    // p+q, of a sheet that keeps to its room.
+    pub fn pins(&self) -> usize
+        ensures { result ≤ 9 }
+    {
+        (self.top as usize + self.bottom as usize).min(ROOM)
+    }
+
+    // The terminals that there are.
+    pub fn terminals(&self) -> &[Record]
+        ensures { length result.now ≤ 9 }
+    {
+        &self.records[..self.pins()]
+    }
+
+    // The nets, each once.
+    pub fn nets(&self) -> Nets {
+        let mut nets = ArrayVec::new();
+        for terminal in self.terminals() {
+            if !nets.contains(&terminal.net) {
+                nets.push(terminal.net);
+            }
+        }
+        nets
+    }
+}

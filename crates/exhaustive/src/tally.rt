@@ -1,0 +1,29 @@
+// What occurs on the sheets: without it, that none differs would say little.
+
+// The sheets with a net that leaves the channel, those with an assignment, and with more than one of the least density; the lists that are
+// assignments, and those that are refused for a distance too short or too long; the sheets on which a call did not do what it must.
+#[derive(Clone, Copy, Debug, Default, PartialEq, Eq)]
+pub struct Tally {
+    pub leaving: u64,
+    pub found: u64,
+    pub tied: u64,
+    pub assignments: u64,
+    pub short: u64,
+    pub long: u64,
+    pub wrong: u64,
+}
+
+impl Tally {
+    // Sums that wrap ask for no bound on the counts.
+    pub fn plus(self, other: Tally) -> Tally {
+        Tally {
+            leaving: self.leaving.wrapping_add(other.leaving),
+            found: self.found.wrapping_add(other.found),
+            tied: self.tied.wrapping_add(other.tied),
+            assignments: self.assignments.wrapping_add(other.assignments),
+            short: self.short.wrapping_add(other.short),
+            long: self.long.wrapping_add(other.long),
+            wrong: self.wrong.wrapping_add(other.wrong),
+        }
+    }
+}

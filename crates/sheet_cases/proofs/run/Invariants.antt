@@ -1,6 +1,0 @@
--- Each command ends behind the place where it starts.
-use Rattle.std.proofs.Common.{◌-◌, length}
-use Rattle.sheet_cases.proofs.run.Given as goal
-
-abbrev pub decreases-loop-at : goal.decreases-loop-at
-decreases-loop-at g l = length l.text - l.at
