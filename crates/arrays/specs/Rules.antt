@@ -1,6 +1,8 @@
 -- The array of the rules: two words for each terminal of either side.
 -- Assumes nothing.
 use Rattle.std.specs.Prelude.{ℕ, ◌+◌, ◌-◌, ◌*◌, List, get_or, set}
+use Rattle.channel.specs.declared.Side.{Side}
+use Rattle.channel.specs.declared.Side.TheVariants.{Top, Bottom}
 
 -- the most terminals of a side; the words of a side, and of both
 abbrev pub pins : ℕ
@@ -12,7 +14,12 @@ side_words = 128
 abbrev pub rule_words : ℕ
 rule_words = 256
 
--- where the words of the i-th terminal, from 1, stand, of side 0, top, or 1, bottom: first the side's ranges, then its allowed sets
+-- a side's number
+abbrev pub side_number : Side → ℕ
+side_number Top = 0
+side_number Bottom = 1
+
+-- where the words of the i-th terminal, from 1, of the side with a number stand: first the side's ranges, then its allowed sets
 abbrev pub range_place : ℕ → ℕ → ℕ
 range_place side i = side_words * side + (i - 1)
 

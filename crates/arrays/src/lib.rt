@@ -3,8 +3,10 @@
 #![tactic(auto)]
 
 ghost use Rattle.std.specs.Prelude.{◌≤◌, ◌≡◌, length};
-ghost use Rattle.arrays.specs.Rules.{pins, rule_words, range_at, allowed_at, put_rule};
+ghost use Rattle.arrays.specs.Rules.{pins, rule_words, side_number, range_at, allowed_at, put_rule};
 ghost use Rattle.arrays.specs.Loads.{load_bytes, load_at, put_loads};
+
+use channel::Side;
 
 // The most terminals of a side, and the words of their rules.
 const PINS: usize = 64;
@@ -26,29 +28,29 @@ pub struct RuleTable {
 }
 
 impl RuleTable {
-    // The distances in range of the i-th terminal, from 1, of a side, 0 top and 1 bottom.
-    pub fn range(&self, side: usize, i: usize) -> u64
-        requires { (side ≤ 1) × (1 ≤ i) × (i ≤ pins) }
-        ensures { result ≡ range_at self.now.words side i }
+    // The distances in range of the i-th terminal, from 1, of a side.
+    pub fn range(&self, side: Side, i: usize) -> u64
+        requires { (1 ≤ i) × (i ≤ pins) }
+        ensures { result ≡ range_at self.now.words (side_number side) i }
     {
-        self.words[SIDE * side + (i - 1)]
+        self.words[SIDE * side as usize + (i - 1)]
     }
 
     // Its allowed columns.
-    pub fn allowed(&self, side: usize, i: usize) -> u64
-        requires { (side ≤ 1) × (1 ≤ i) × (i ≤ pins) }
-        ensures { result ≡ allowed_at self.now.words side i }
+    pub fn allowed(&self, side: Side, i: usize) -> u64
+        requires { (1 ≤ i) × (i ≤ pins) }
+        ensures { result ≡ allowed_at self.now.words (side_number side) i }
     {
-        self.words[SIDE * side + (i - 1) + PINS]
+        self.words[SIDE * side as usize + (i - 1) + PINS]
     }
 
     // Puts in its two words.
-    pub fn put(&mut self, side: usize, i: usize, range: u64, allowed: u64)
-        requires { (side ≤ 1) × (1 ≤ i) × (i ≤ pins) }
-        ensures words { self.new.words ≡ put_rule self.old.words side i range allowed }
+    pub fn put(&mut self, side: Side, i: usize, range: u64, allowed: u64)
+        requires { (1 ≤ i) × (i ≤ pins) }
+        ensures words { self.new.words ≡ put_rule self.old.words (side_number side) i range allowed }
         ensures size { length self.new.words ≡ rule_words }
     {
-        let at = SIDE * side + (i - 1);
+        let at = SIDE * side as usize + (i - 1);
         self.words[at] = range;
         self.words[at + PINS] = allowed;
     }

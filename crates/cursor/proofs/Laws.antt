@@ -8,8 +8,8 @@ use Rattle.std.proofs.lemmas.Bool.{cases_lt}
 use Rattle.std.proofs.lemmas.Option.{none-some}
 use lib.ListN.{length}
 use Rattle.channel.specs.Sheet.{Terminal, Sheet}
-use Rattle.format.specs.declared.Side.{Side}
-use Rattle.format.specs.declared.Side.TheVariants.{Top, Bottom}
+use Rattle.channel.specs.declared.Side.{Side}
+use Rattle.channel.specs.declared.Side.TheVariants.{Top, Bottom}
 use Rattle.soundness.specs.Read.{read}
 use Rattle.cursor.specs.declared.Cursor.{Cursor}
 use Rattle.cursor.specs.declared.Visit.{Visit}

@@ -4,8 +4,8 @@
 use Rattle.std.specs.Prelude.{ℕ, zero, suc, ◌+◌, List, [], ◌∷◌, ◌++◌, Option, Some, None}
 use Rattle.channel.specs.Sheet.{Terminal, Sheet}
 use Rattle.terminal.specs.Terminal.{record_of}
-use Rattle.format.specs.declared.Side.{Side}
-use Rattle.format.specs.declared.Side.TheVariants.{Top, Bottom}
+use Rattle.channel.specs.declared.Side.{Side}
+use Rattle.channel.specs.declared.Side.TheVariants.{Top, Bottom}
 use Rattle.soundness.specs.Read.{Read, read}
 use Rattle.soundness.specs.Read.Read.{sound, refused}
 use Rattle.cursor.specs.declared.Cursor.{Cursor}

@@ -10,6 +10,7 @@ ghost use Rattle.entry.specs.Asks.{AsksEntry};
 use arrays::{LoadTable, RuleTable};
 use bits::{below, bit, both, either, from, single};
 use cells::read_word;
+use channel::Side;
 use rows::rows;
 use steps::steps;
 
@@ -69,8 +70,8 @@ fn top(
         return 0;
     }
     if loads.at(i, j).top <= bound {
-        if bit(rules.allowed(0, i), x) {
-            let found = rows(work, place.at - grid.stride, x, rules.range(0, i));
+        if bit(rules.allowed(Side::Top, i), x) {
+            let found = rows(work, place.at - grid.stride, x, rules.range(Side::Top, i));
             return both(found, below(x + i - j));
         }
     }
@@ -98,7 +99,7 @@ fn bottom(
     }
     if loads.at(i, j).bottom <= bound {
         let row = read_word(work, place.at - grid.size + 4 * x);
-        let found = both(steps(row, rules.range(1, j)), rules.allowed(1, j));
+        let found = both(steps(row, rules.range(Side::Bottom, j)), rules.allowed(Side::Bottom, j));
         if x + i < j {
             return found;
         }
@@ -137,16 +138,16 @@ fn pair(
         return 0;
     }
     if loads.at(i, j).both <= bound {
-        if bit(rules.allowed(0, i), x) {
+        if bit(rules.allowed(Side::Top, i), x) {
             let found = rows(
                 work,
                 place.at - (grid.stride + grid.size),
                 x,
-                rules.range(0, i),
+                rules.range(Side::Top, i),
             );
             return both(
                 single(y),
-                both(steps(found, rules.range(1, j)), rules.allowed(1, j)),
+                both(steps(found, rules.range(Side::Bottom, j)), rules.allowed(Side::Bottom, j)),
             );
         }
     }

@@ -14,8 +14,8 @@ use Rattle.refusals.specs.Refusals.{refuse}
 use Rattle.refusals.proofs.Refused.{or_else_sound, refuse-sound}
 use Rattle.trailer.specs.declared.Part.{Part}
 use Rattle.trailer.specs.Trailer.{trailer_size, trailer_of, has_mark, CP}
-use Rattle.format.specs.declared.Side.{Side}
-use Rattle.format.specs.declared.Side.TheVariants.{Top, Bottom}
+use Rattle.channel.specs.declared.Side.{Side}
+use Rattle.channel.specs.declared.Side.TheVariants.{Top, Bottom}
 use Rattle.format.specs.Format.{record_size, part_of}
 use Rattle.form.specs.Form.{follows, laid_out, trailer_check, form_of}
 

@@ -5,8 +5,8 @@ use Rattle.channel.specs.Sheet.{Terminal}
 use Rattle.little.specs.Little.{little}
 use Rattle.trailer.specs.declared.Part.{Part}
 use Rattle.trailer.specs.declared.Trailer.{Trailer}
-use Rattle.format.specs.declared.Side.{Side}
-use Rattle.format.specs.declared.Side.TheVariants.{Top, Bottom}
+use Rattle.channel.specs.declared.Side.{Side}
+use Rattle.channel.specs.declared.Side.TheVariants.{Top, Bottom}
 
 -- "Record: net (2 bytes), least distance (1), greatest distance (1), allowed set (8 ..)"
 abbrev pub record_size : ℕ

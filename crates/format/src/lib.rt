@@ -7,16 +7,10 @@ ghost use Rattle.terminal.specs.Terminal.{record_of};
 ghost use Rattle.format.specs.Format.{record_size, terminal_at};
 ghost use Rattle.format.specs.Parts.{OwnPart, offset_of, bytes_of, terminals_in};
 
+pub use channel::Side;
 use little::read_number;
 use terminal::Record;
 use trailer::Part;
-
-// The two sides of the channel.
-#[derive(Clone, Copy)]
-pub enum Side {
-    Top,
-    Bottom,
-}
 
 pub const RECORD: usize = 12;
 

@@ -11,7 +11,7 @@ use lib.ListN.{length, get_or, take}
 use lib.Seq.{take-nil}
 use Rattle.channel.specs.Sheet.{Terminal}
 use Rattle.terminal.specs.Terminal.{record_of}
-use Rattle.format.specs.declared.Side.{Side}
+use Rattle.channel.specs.declared.Side.{Side}
 use Rattle.cursor.specs.declared.Visit.{Visit}
 use Rattle.format.specs.Parts.{terminals_in}
 use Rattle.sheet.specs.Parts.{nth, entry_of, entry_in}

@@ -1,8 +1,8 @@
 -- The lines of the program's text, in ASCII (document 01, "The program").
 -- Assumes nothing.
 use Rattle.std.specs.Prelude.{ℕ, List, [], ◌∷◌, ◌++◌, Option, Some, None}
-use Rattle.format.specs.declared.Side.{Side}
-use Rattle.format.specs.declared.Side.TheVariants.{Top, Bottom}
+use Rattle.channel.specs.declared.Side.{Side}
+use Rattle.channel.specs.declared.Side.TheVariants.{Top, Bottom}
 use Rattle.cursor.specs.declared.Visit.{Visit}
 use Rattle.terminal.specs.declared.Record.{Record}
 use Rattle.text.specs.Digits as text

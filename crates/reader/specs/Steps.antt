@@ -2,7 +2,7 @@
 -- Assumes nothing.
 use Rattle.std.specs.Prelude.{ℕ, zero, suc, ◌+◌, ◌≤◌, ◌≡◌, List, [], ◌∷◌, ◌++◌, length, take, Option, Some, None}
 use Rattle.channel.specs.Sheet.{Sheet}
-use Rattle.format.specs.declared.Side.TheVariants.{Top, Bottom}
+use Rattle.channel.specs.declared.Side.TheVariants.{Top, Bottom}
 use Rattle.soundness.specs.Read.{Read}
 use Rattle.soundness.specs.Read.Read.{sound, refused}
 use Rattle.cursor.specs.declared.Cursor.{Cursor}

@@ -3,7 +3,9 @@
 use Rattle.std.proofs.Common.{ℕ, ◌+◌, ◌≤◌, ◌<◌, ◌≡◌, refl, ◌∙◌, ap, List, Bool, true, false, arith, length, eqb, eqb-true}
 use borrow.Author.Tests.{eqb-false}
 use Rattle.channel.specs.Sheet.{Terminal}
-use Rattle.arrays.specs.Rules.{pins, rule_words, range_at, allowed_at, put_rule}
+use Rattle.channel.specs.declared.Side.{Side}
+use Rattle.channel.specs.declared.Side.TheVariants.{Top, Bottom}
+use Rattle.arrays.specs.Rules.{pins, rule_words, side_number, range_at, allowed_at, put_rule}
 use Rattle.arrays.proofs.Rules.{length-put_rule, range-put, allowed-put, range-put-other, allowed-put-other}
 use Rattle.bits.specs.Bits.{bit_of}
 use Rattle.rules.specs.Sides.{SideRules, TerminalRule, SameRule, SideRead}
@@ -14,16 +16,23 @@ pub record RulesTo (side : ℕ) (ts : List Terminal) (n : ℕ) (old new : List �
   pub rules : (i : ℕ) → 1 ≤ i → i ≤ n → TerminalRule ts i (range_at new side i) (allowed_at new side i)
   pub others : (b i : ℕ) → 1 ≤ i → i ≤ pins → (b ≡ side → n < i) → SameRule b i old new
 
-module _ (side : ℕ) (ts : List Terminal) (old : List ℕ) where
+module _ (s : Side) (ts : List Terminal) (old : List ℕ) where
+  abbrev side : ℕ
+  side = side_number s
+
+  low : (s : Side) → side_number s ≤ 1
+  low Top = omega arith
+  low Bottom = omega arith
+
   -- no terminal yet
   pub rules_none : RulesTo side ts 0 old old
   rules_none = record { kept = refl; rules = λ i p l. absurd (omega arith); others = λ b i p l o. (refl, refl) }
 
   -- one terminal more
   pub rules_more :
-      (n w a : ℕ) (rules : List ℕ) → n < pins → side ≤ 1 → length old ≡ rule_words → TerminalRule ts (n + 1) w a
+      (n w a : ℕ) (rules : List ℕ) → n < pins → length old ≡ rule_words → TerminalRule ts (n + 1) w a
       → RulesTo side ts n old rules → RulesTo side ts (n + 1) old (put_rule rules side (n + 1) w a)
-  rules_more n w a rules few sides size rule r =
+  rules_more n w a rules few size rule r =
       record {
         kept = length-put_rule rules side (n + 1) w a ∙ r.kept;
         rules = λ i p l. by-test i p l (eqb i (n + 1)) refl;
@@ -49,8 +58,8 @@ module _ (side : ℕ) (ts : List Terminal) (old : List ℕ) where
           let same : i ≡ n + 1 = eqb-true i (n + 1) e in
           rw (
             same,
-            range-put rules side (n + 1) w a (omega arith) (omega arith) (r.kept ∙ size) sides,
-            allowed-put rules side (n + 1) w a (omega arith) (omega arith) (r.kept ∙ size) sides,
+            range-put rules side (n + 1) w a (omega arith) (omega arith) (r.kept ∙ size) (low s),
+            allowed-put rules side (n + 1) w a (omega arith) (omega arith) (r.kept ∙ size) (low s),
           )
           rule
       by-test i p l false e =

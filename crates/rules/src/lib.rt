@@ -4,13 +4,14 @@
 
 ghost use Rattle.std.specs.Prelude.{ℕ, ◌+◌, ◌≤◌, ◌<◌, ◌≡◌, length};
 ghost use Rattle.channel.specs.Assignment.{in_range};
-ghost use Rattle.arrays.specs.Rules.{pins};
+ghost use Rattle.arrays.specs.Rules.{pins, side_number};
 ghost use Rattle.bits.specs.Bits.{bit_of};
 ghost use Rattle.format.specs.Parts.{terminals_in};
 ghost use Rattle.rules.specs.Sides.{TerminalRule, SideRead};
 
 use arrays::RuleTable;
 use bits::{either, single};
+use channel::Side;
 use format::{count_in, terminal_at};
 use terminal::amount;
 
@@ -54,10 +55,10 @@ fn rule_of(part: &[u8], place: usize) -> Rule
     }
 }
 
-// The rules of one side, 0 top and 1 bottom, from its section.
-pub fn read_rules(part: &[u8], rules: &mut RuleTable, side: usize)
-    requires { (side ≤ 1) × (length (terminals_in part.now) ≤ pins) }
-    ensures { SideRead side (terminals_in part.now) rules.old.words rules.new.words }
+// The rules of one side, from its section.
+pub fn read_rules(part: &[u8], rules: &mut RuleTable, side: Side)
+    requires { length (terminals_in part.now) ≤ pins }
+    ensures { SideRead (side_number side) (terminals_in part.now) rules.old.words rules.new.words }
 {
     let count = count_in(part);
     for i in 0..count {

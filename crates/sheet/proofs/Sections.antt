@@ -12,8 +12,8 @@ use Rattle.refusals.specs.declared.Refusal.{Refusal}
 use Rattle.terminal.specs.Terminal.{record_of}
 use Rattle.trailer.specs.declared.Part.{Part}
 use Rattle.trailer.specs.declared.Trailer.{Trailer}
-use Rattle.format.specs.declared.Side.{Side}
-use Rattle.format.specs.declared.Side.TheVariants.{Top, Bottom}
+use Rattle.channel.specs.declared.Side.{Side}
+use Rattle.channel.specs.declared.Side.TheVariants.{Top, Bottom}
 use Rattle.trailer.specs.Trailer.{trailer_of}
 use Rattle.format.specs.Format.{record_size, terminals_from, of_side, part_of}
 use Rattle.format.specs.Parts.{bytes_of, offset_of, terminals_in}

@@ -4,8 +4,8 @@ use Rattle.std.specs.Prelude.{ℕ, zero, suc, ◌+◌, ◌*◌, List, [], ◌∷
 use Rattle.channel.specs.Sheet.{Terminal, Sheet, sheet_with, terminals}
 use Rattle.channel.specs.Sheet as channel
 use Rattle.terminal.specs.Terminal.{record_of}
-use Rattle.format.specs.declared.Side.{Side}
-use Rattle.format.specs.declared.Side.TheVariants.{Top, Bottom}
+use Rattle.channel.specs.declared.Side.{Side}
+use Rattle.channel.specs.declared.Side.TheVariants.{Top, Bottom}
 use Rattle.trailer.specs.declared.Trailer.{Trailer}
 use Rattle.trailer.specs.Trailer.{trailer_of}
 use Rattle.format.specs.Format.{part_of}

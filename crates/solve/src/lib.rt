@@ -5,6 +5,7 @@ ghost use Rattle.std.specs.Prelude.{◌+◌, ◌-◌, ◌≤◌, ◌≡◌, cond
 ghost use Rattle.solve.specs.Solved.{plan_of, AsksSolve, Worked, Solved};
 
 use arrays::{LOADS, LoadTable, RULES, RuleTable};
+use channel::Side;
 use entry::Grid;
 use pass::{Plan, place};
 use rules::read_rules;
@@ -48,8 +49,8 @@ fn find(top: &[u8], bottom: &[u8], shape: Shape, columns: &mut [u8], work: &mut 
     let plan = make_plan(l, p, q);
     // made in place: a function that gives a table copies it
     let mut rules = RuleTable { words: [0; RULES] };
-    read_rules(top, &mut rules, 0);
-    read_rules(bottom, &mut rules, 1);
+    read_rules(top, &mut rules, Side::Top);
+    read_rules(bottom, &mut rules, Side::Bottom);
     let mut loads = LoadTable { bytes: [0; LOADS] };
     load::read_loads(top, bottom, &mut loads);
     place(work, &rules, &loads, plan, columns)

@@ -14,8 +14,8 @@ use Rattle.refusals.specs.Refusals.{◌or_else◌}
 use Rattle.refusals.proofs.Refused.{or_else_sound}
 use Rattle.trailer.specs.declared.Trailer.{Trailer}
 use Rattle.trailer.specs.Trailer.{trailer_of, TrailerRead}
-use Rattle.format.specs.declared.Side.{Side}
-use Rattle.format.specs.declared.Side.TheVariants.{Top, Bottom}
+use Rattle.channel.specs.declared.Side.{Side}
+use Rattle.channel.specs.declared.Side.TheVariants.{Top, Bottom}
 use Rattle.format.specs.Format.{part_of}
 use Rattle.format.specs.Parts.{bytes_of, terminals_in}
 use Rattle.form.specs.Form.{form_of}

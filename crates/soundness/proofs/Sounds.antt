@@ -13,7 +13,7 @@ use Rattle.channel.specs.Sheet.{Terminal, Sheet, SoundTerminal, SoundFrom, dista
 use Rattle.refusals.specs.declared.Refusal.{Refusal}
 use Rattle.refusals.specs.declared.Refusal.TheVariants.{Net, Distance, Beyond}
 use Rattle.refusals.specs.Refusals.{number_of}
-use Rattle.format.specs.declared.Side.TheVariants.{Top, Bottom}
+use Rattle.channel.specs.declared.Side.TheVariants.{Top, Bottom}
 use Rattle.trailer.specs.Trailer.{trailer_of}
 use Rattle.format.proofs.Records.{part_terminals}
 use Rattle.refusals.specs.Refusals.{refuse}

@@ -2,7 +2,7 @@
 #![tactic(auto)]
 
 ghost use Rattle.std.specs.Prelude.{ℕ, ◌+◌, ◌-◌, ◌≤◌, ◌<◌, ◌≡◌, length};
-ghost use Rattle.arrays.specs.Rules.{pins};
+ghost use Rattle.arrays.specs.Rules.{pins, side_number};
 ghost use Rattle.bits.specs.Bits.{bit_of};
 ghost use Rattle.letters.specs.Letters.{letter_number};
 ghost use Rattle.walk.specs.Walk.{steps_to, stands_at, lefts, empty_meets, top_meets, bottom_fits, choice_in, walk_columns};
@@ -11,14 +11,15 @@ ghost use Rattle.walk.specs.Walking.{AsksWalk, AsksStep};
 
 use arrays::RuleTable;
 use bits::{bit, single};
+use channel::Side;
 use entry::Grid;
 use letters::{Letter, Progress, behind, put};
 use table::{back, meets};
 
 // The steps from the last pin to be placed to the one behind it.
-fn steps_to(rules: &RuleTable, side: usize, i: usize, n: usize) -> u64
-    requires { (side ≤ 1) × (i ≤ n) × (n ≤ pins) }
-    ensures { result ≡ steps_to rules.now.words side i n }
+fn steps_to(rules: &RuleTable, side: Side, i: usize, n: usize) -> u64
+    requires { (i ≤ n) × (n ≤ pins) }
+    ensures { result ≡ steps_to rules.now.words (side_number side) i n }
 {
     if i == n {
         u64::MAX
@@ -46,7 +47,7 @@ fn left_numbers(rules: &RuleTable, q: usize, m: Progress) -> u64
         return 0;
     }
     let next = stands_at(j, q, m.bottom);
-    let by = steps_to(rules, 1, j, q);
+    let by = steps_to(rules, Side::Bottom, j, q);
     back(left - j, next, by)
 }
 
@@ -67,7 +68,7 @@ fn rows_meet(
         (stands_at m.i p m.top) (steps_to rules.now.words 0 m.i p) set }
 {
     let next = stands_at(m.i, p, m.top);
-    let by = steps_to(rules, 0, m.i, p);
+    let by = steps_to(rules, Side::Top, m.i, p);
     meets(work, grid, m.i, m.j, low, high, next, by, set)
 }
 
@@ -133,7 +134,7 @@ fn bottom_fits(work: &[u16], rules: &RuleTable, grid: Grid, p: usize, q: usize, 
     }
     let number = c - j;
     let next = stands_at(j, q, m.bottom);
-    let by = steps_to(rules, 1, j, q);
+    let by = steps_to(rules, Side::Bottom, j, q);
     bit(by, next - number) && empty_fits(work, rules, grid, p, q, m, single(number))
 }
 
