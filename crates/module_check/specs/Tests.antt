@@ -1,12 +1,14 @@
 -- The tests behind 16, 17, 4 and 6, of one side (document 02, T-02).
 -- Assumes nothing.
 use Rattle.std.specs.Prelude.{ℕ, ◌+◌, List, ◌&&◌, length}
+use Rattle.modules.specs.declared.Pin.{Pin}
 use Rattle.modules.specs.Modules.{Module, pin_count, every, is_rising, is_valid, are_valid, is_within, pins_named, is_named}
 use Rattle.module_check.specs.declared.Tests.{Tests}
 use Rattle.module_check.specs.declared.PinTests.{PinTests}
 
-abbrev pub pin_tests_of : Module → PinTests
-pin_tests_of m = record { rising = is_rising m.width 0 m.pins; named = pins_named m.pins }
+-- of pins in a module so wide
+abbrev pub pin_tests_of : ℕ → List Pin → PinTests
+pin_tests_of width ps = record { rising = is_rising width 0 ps; named = pins_named ps }
 
 -- of one module
 abbrev pub module_tests : ℕ → Module → Tests

@@ -2,10 +2,11 @@
 #![tactic(auto)]
 
 ghost use Rattle.std.specs.Prelude.{◌≡◌, ◌&&◌, ◌+◌, ◌-◌, ◌*◌, ◌^◌, ◌≤◌, ◌<◌, length};
-ghost use Rattle.modules.specs.Bytes.{pin_size, module_of, modules_in};
+ghost use Rattle.modules.specs.Bytes.{modules_in};
+ghost use Rattle.modules.specs.Left.{pins_left, module_left};
 ghost use Rattle.module_check.specs.Tests.{pin_tests_of, module_tests, combined, tests_of};
 
-use modules::{Head, PIN, head_in, pin_at};
+use modules::{Module, Modules, Pins};
 use terminal::names_above;
 
 // What 16, 17 and 6 ask of a side: its modules are valid, within the channel and named; and the number of its pins.
@@ -25,21 +26,19 @@ struct PinTests {
 }
 
 // Whether the offsets of a module's pins rise within its width, and whether all its nets are named.
-fn check_pins(side: &[u8], head: Head) -> PinTests
-    requires { head.start + pin_size * head.count ≤ length side.now }
-    ensures { result ≡ pin_tests_of (module_of side.now head) }
+fn check_pins(pins: Pins, width: u8) -> PinTests
+    ensures { result ≡ pin_tests_of width (pins_left pins.entry) }
 {
     let mut before = 0u8;
     let mut rising = true;
     let mut named = true;
-    for i in 0..head.count {
-        let pin = pin_at(side, head.start + PIN * i);
+    for pin in pins {
         rising &= before < pin.offset;
         named &= pin.net != 0;
         before = pin.offset;
     }
     PinTests {
-        rising: rising && before <= head.width,
+        rising: rising && before <= width,
         named,
     }
 }
@@ -53,16 +52,17 @@ fn last_edge(columns: usize, width: usize) -> usize
 }
 
 // The tests of one module.
-fn check_module(side: &[u8], head: Head, columns: usize) -> Tests
-    requires { (columns ≤ 64) × (head.start + pin_size * head.count ≤ length side.now) }
-    ensures { result ≡ module_tests columns (module_of side.now head) }
+fn check_module(m: Module, columns: usize) -> Tests
+    requires { columns ≤ 64 }
+    ensures { result ≡ module_tests columns (module_left m.entry) }
 {
-    let pins = check_pins(side, head);
-    let wide = (1 <= head.width) & (head.width <= 64);
-    let some = (1 <= head.count) & pins.rising;
-    let beyond = names_above(head.edges, last_edge(columns, head.width as usize));
+    let count = m.pins.len();
+    let pins = check_pins(m.pins, m.width);
+    let wide = (1 <= m.width) & (m.width <= 64);
+    let some = (1 <= count) & pins.rising;
+    let beyond = names_above(m.edges, last_edge(columns, m.width as usize));
     Tests {
-        pins: head.count,
+        pins: count,
         valid: wide & some,
         within: !beyond,
         named: pins.named,
@@ -87,7 +87,6 @@ pub fn check_modules(side: &[u8], columns: usize) -> Tests
     requires { columns ≤ 64 }
     ensures { (result ≡ tests_of columns (modules_in side.now)) × (result.pins ≤ length side.now) }
 {
-    let mut at = 0;
     let mut count = 0usize;
     let mut all = Tests {
         pins: 0,
@@ -95,12 +94,9 @@ pub fn check_modules(side: &[u8], columns: usize) -> Tests
         within: true,
         named: true,
     };
-    // no `for`: each module moves the place by its own length
-    while at < side.len() {
-        let head = head_in(side, at);
-        all = combine(all, check_module(side, head, columns));
+    for m in Modules::new(side) {
+        all = combine(all, check_module(m, columns));
         count += 1;
-        at = head.end;
     }
     Tests {
         pins: all.pins,

@@ -9,8 +9,8 @@ use lib.ListN.{length}
 use lib.Dec.{leb}
 use borrow.Author.Tests.{leb-true, leb-false, le-leb, lt-leb}
 use Rattle.modules.specs.declared.Head.{Head}
-use Rattle.modules.specs.Modules.{Module}
-use Rattle.modules.specs.Bytes.{pin_size, pin_at, end_at, head_at, cut_head, head_in, pins_from, module_of, modules_from, modules_at}
+use Rattle.modules.specs.Modules.{Module, pin_count}
+use Rattle.modules.specs.Bytes.{pin_size, pin_at, end_at, head_at, cut_head, head_in, pins_from, module_of, modules_from, modules_at, modules_in}
 
 -- of some pins the first, and those behind it
 pub pins-more : (b : List ℕ) (i n : ℕ) → 0 < n → pins_from b i n ≡ pin_at b i ∷ pins_from b (i + pin_size) (n - 1)
@@ -82,3 +82,24 @@ pub head_read :
     (b : List ℕ) (i : ℕ) (h : Head) → h ≡ head_in b i → i < length b
     → Lies b i h × (modules_at b i ≡ module_of b h ∷ modules_at b h.end)
 head_read b i h e some = rw e (lies b i some, modules-more b i some)
+
+-- a module takes more bytes than it has pins, so that a side has at most as many of either as bytes
+abbrev Few : List ℕ → ℕ → List Module → Type 0
+Few b i ms = (pin_count ms + i ≤ length b) × (length ms + i ≤ length b)
+
+few_from : (b : List ℕ) (n i : ℕ) → i ≤ length b → Few b i (modules_from n b i)
+few_from b zero i h = (omega (arith, h), omega (arith, h))
+few_from b (suc n) i h = by_place (λ j g. few_from b n j g) (leb (length b) i) refl
+  where
+    by_place :
+        ((j : ℕ) → j ≤ length b → Few b j (modules_from n b j)) → (t : Bool) → leb (length b) i ≡ t → Few b i (modules_from (suc n) b i)
+    by_place next true e = rw e (omega (arith, h), omega (arith, h))
+    by_place next false e =
+        let here = lies b i (leb-false (length b) i e) in
+        let (pins, count) = next (head_in b i).end here.inside in
+        let size = length-pins b (head_in b i).start (head_in b i).count in
+        rw e (omega (arith, pins, size, here.start, here.pins), omega (arith, count, here.behind))
+
+pub few_modules : (b : List ℕ) → (pin_count (modules_in b) ≤ length b) × (length (modules_in b) ≤ length b)
+unfolding modules_at
+few_modules b = let (pins, count) = few_from b (length b - 0) 0 (omega arith) in (omega (arith, pins), omega (arith, count))

@@ -2,8 +2,8 @@
 // head or a pin is.
 #![tactic(auto)]
 
-ghost use Rattle.std.specs.Prelude.{◌≡◌, ◌+◌, ◌≤◌, length};
-ghost use Rattle.modules.specs.Bytes.{pin_size, pin_at, cut_head, head_in};
+ghost use Rattle.std.specs.Prelude.{◌≡◌, ◌+◌, ◌*◌, ◌≤◌, length};
+ghost use Rattle.modules.specs.Bytes.{pin_size, pin_at, cut_head, head_in, modules_in};
 
 use little::read_number;
 
@@ -17,20 +17,119 @@ pub struct Pin {
 // What stands before a module's pins: its width, its set of allowed left edges and the number of its pins; and where the pins start and
 // the module ends.
 #[derive(Clone, Copy)]
-pub struct Head {
-    pub width: u8,
-    pub edges: u64,
-    pub count: usize,
-    pub start: usize,
-    pub end: usize,
+struct Head {
+    width: u8,
+    edges: u64,
+    count: usize,
+    start: usize,
+    end: usize,
 }
 
-pub const HEAD: usize = 10;
+// The pins of a module that are still to come.
+#[derive(Clone, Copy)]
+pub struct Pins<'a> {
+    side: &'a [u8],
+    at: usize,
+    left: usize,
+    ghost inside: { at + pin_size * left ≤ length side.now },
+}
 
-pub const PIN: usize = 3;
+// A module: its width, its set of allowed left edges and its pins.
+#[derive(Clone, Copy)]
+pub struct Module<'a> {
+    pub width: u8,
+    pub edges: u64,
+    pub pins: Pins<'a>,
+}
+
+// The modules of a side that are still to come.
+#[derive(Clone, Copy)]
+pub struct Modules<'a> {
+    side: &'a [u8],
+    at: usize,
+}
+
+const HEAD: usize = 10;
+
+const PIN: usize = 3;
+
+impl<'a> Pins<'a> {
+    ghost use Rattle.modules.specs.Left.{pins_left};
+
+    // How many there are.
+    pub fn len(&self) -> usize
+        ensures { result ≡ length (pins_left self.now) }
+    {
+        self.left
+    }
+}
+
+impl<'a> Iterator for Pins<'a> {
+    ghost use Rattle.std.specs.Iterator.{YieldsFirst, item_count};
+    ghost use Rattle.modules.specs.Left.{pins_left};
+
+    type Item = Pin;
+
+    ghost next_gives = { YieldsFirst pins_left };
+
+    ghost remaining = { item_count pins_left };
+
+    fn next(&mut self) -> Option<Pin> {
+        if self.left == 0 {
+            return None;
+        }
+        let pin = pin_at(self.side, self.at);
+        *self = Pins {
+            side: self.side,
+            at: self.at + PIN,
+            left: self.left - 1,
+        };
+        Some(pin)
+    }
+}
+
+impl<'a> Modules<'a> {
+    ghost use Rattle.modules.specs.Left.{modules_left};
+
+    // The modules of a side.
+    pub fn new(side: &'a [u8]) -> Self
+        ensures { modules_left result ≡ modules_in side.now }
+    {
+        Modules { side, at: 0 }
+    }
+}
+
+impl<'a> Iterator for Modules<'a> {
+    ghost use Rattle.std.specs.Iterator.{YieldsFirstBy, item_count};
+    ghost use Rattle.modules.specs.Left.{module_left, modules_left};
+
+    type Item = Module<'a>;
+
+    ghost next_gives = { YieldsFirstBy module_left modules_left };
+
+    ghost remaining = { item_count modules_left };
+
+    #[tactic(auto, using(crate::proofs::Lists::modules_end, crate::proofs::Lists::head_read))]
+    fn next(&mut self) -> Option<Module<'a>> {
+        if self.side.len() <= self.at {
+            return None;
+        }
+        let head = head_in(self.side, self.at);
+        self.at = head.end;
+        Some(Module {
+            width: head.width,
+            edges: head.edges,
+            pins: Pins {
+                side: self.side,
+                at: head.start,
+                left: head.count,
+            },
+        })
+    }
+}
 
 // The pin at an offset of the list.
-pub fn pin_at(side: &[u8], at: usize) -> Pin
+fn pin_at(side: &[u8], at: usize) -> Pin
     requires { at + pin_size ≤ length side.now }
     ensures { result ≡ pin_at side.now at }
 {
@@ -40,7 +139,7 @@ pub fn pin_at(side: &[u8], at: usize) -> Pin
 }
 
 // The head at an offset of the list. A module that runs past the list's end has no width and no pins, and the list ends behind it.
-pub fn head_in(side: &[u8], at: usize) -> Head
+fn head_in(side: &[u8], at: usize) -> Head
     requires { at ≤ length side.now }
     ensures { result ≡ head_in side.now at }
 {
