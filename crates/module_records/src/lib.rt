@@ -6,13 +6,15 @@ ghost use Rattle.text.specs.Writing.{Writes};
 ghost use Rattle.terminal.specs.Terminal.{record_of};
 ghost use Rattle.format.specs.Format.{record_size};
 ghost use Rattle.encode.specs.Encode.{section_bytes};
-ghost use Rattle.modules.specs.Modules.{pin_count, gap_of, pin_terminal, inner_terminals, module_terminals, side_terminals};
+ghost use Rattle.modules.specs.Modules.{pin_count, gap_of, last_offset, pin_terminal, inner_terminals, module_terminals, side_terminals};
 ghost use Rattle.modules.specs.Modules.{first_least, first_greatest};
-ghost use Rattle.modules.specs.Bytes.{pin_size, pins_from, module_of, modules_in};
+ghost use Rattle.modules.specs.Bytes.{modules_in};
+ghost use Rattle.modules.specs.Left.{pins_left, module_left};
 ghost use Rattle.module_records.specs.Writable.{Later, Writable, AllWritable};
+ghost use Rattle.module_records.specs.Behind.{is_first, gap_behind};
 
 use encode::put_record;
-use modules::{Head, PIN, Pin, head_in, pin_at};
+use modules::{Module, Modules, Pin, Pins};
 use terminal::Record;
 use text::Writer;
 
@@ -29,57 +31,57 @@ fn record_of(pin: Pin, edges: u64, least: u8, greatest: u8) -> Record
     }
 }
 
-// The records of a module's pins behind the first: each at its distance from the one before.
-fn put_inner(out: &mut Writer, side: &[u8], head: Head, before: u8)
-    requires { (1 ≤ head.count) × (head.start + pin_size * head.count ≤ length side.now)
-        × (out.old.end + record_size * (head.count - 1) ≤ length out.old.out.now)
-        × Later head.width head.edges before (pins_from side.now (head.start + pin_size) (head.count - 1)) }
-    ensures { Writes out.old out.new (section_bytes (inner_terminals head.edges before (pins_from side.now (head.start + pin_size) (head.count - 1)))) }
+// The records of a module's pins behind one at `before`, each at its distance from the one before; and the gap right of the last.
+fn put_inner(out: &mut Writer, pins: Pins, width: u8, edges: u64, before: u8) -> u8
+    requires { (out.old.end + record_size * length (pins_left pins) ≤ length out.old.out.now)
+        × Later width edges before (pins_left pins) }
+    ensures records { Writes out.old out.new (section_bytes (inner_terminals edges before (pins_left pins.entry))) }
+    ensures gap { result ≡ width - last_offset before (pins_left pins.entry) }
 {
     let mut last = before;
-    for i in 1..head.count {
-        let pin = pin_at(side, head.start + PIN * i);
+    for pin in pins {
         let distance = pin.offset - last;
-        put_record(out, record_of(pin, head.edges, distance, distance));
+        put_record(out, record_of(pin, edges, distance, distance));
         last = pin.offset;
+    }
+    width - last
+}
+
+// The least distance of a module's first pin: the gap that the module before leaves, if there is one, and the pin's own offset.
+fn first_least(gap: Option<u8>, offset: u8) -> u8
+    requires { gap_behind gap + offset < 256 }
+    ensures { result ≡ first_least (is_first gap) (gap_behind gap) offset }
+{
+    match gap {
+        None => 0,
+        Some(gap) => gap + offset,
     }
 }
 
-// The least distance of a module's first pin: the gap that the module before leaves, and the pin's own offset.
-fn first_least(first: bool, gap: u8, offset: u8) -> u8
-    requires { gap + offset < 256 }
-    ensures { result ≡ first_least first gap offset }
+fn first_greatest(gap: Option<u8>) -> u8
+    ensures { result ≡ first_greatest (is_first gap) }
 {
-    if first { 0 } else { gap + offset }
+    match gap {
+        None => 0,
+        Some(_) => 255,
+    }
 }
 
-fn first_greatest(first: bool) -> u8
-    ensures { result ≡ first_greatest first }
+// The records of one module, behind the gap that the module before leaves, if there is one; and the gap that it leaves.
+fn put_module(out: &mut Writer, m: Module, gap: Option<u8>) -> u8
+    requires { Writable (module_left m) × (gap_behind gap ≤ 64)
+        × (out.old.end + record_size * length (pins_left m.pins) ≤ length out.old.out.now) }
+    ensures records { Writes out.old out.new (section_bytes (module_terminals (is_first gap) (gap_behind gap) (module_left m.entry))) }
+    ensures gap { result ≡ gap_of (module_left m.entry) }
 {
-    if first { 0 } else { 255 }
-}
-
-// The records of one module.
-fn put_module(out: &mut Writer, side: &[u8], head: Head, first: bool, gap: u8)
-    requires { Writable (module_of side.now head) × (gap ≤ 64) × (head.start + pin_size * head.count ≤ length side.now)
-        × (out.old.end + record_size * head.count ≤ length out.old.out.now) }
-    ensures { Writes out.old out.new (section_bytes (module_terminals first gap (module_of side.now head))) }
-{
-    let pin = pin_at(side, head.start);
-    let least = first_least(first, gap, pin.offset);
-    let greatest = first_greatest(first);
-    put_record(out, record_of(pin, head.edges, least, greatest));
-    put_inner(out, side, head, pin.offset);
-}
-
-// The gap that a module leaves right of its last pin.
-fn gap_of(side: &[u8], head: Head) -> u8
-    requires { Writable (module_of side.now head) × (head.start + pin_size * head.count ≤ length side.now)
-        × (head.end ≡ head.start + pin_size * head.count) }
-    ensures { result ≡ gap_of (module_of side.now head) }
-{
-    let last = pin_at(side, head.end - PIN);
-    head.width - last.offset
+    let mut pins = m.pins;
+    let Some(pin) = pins.next() else {
+        return m.width;
+    };
+    let least = first_least(gap, pin.offset);
+    let greatest = first_greatest(gap);
+    put_record(out, record_of(pin, m.edges, least, greatest));
+    put_inner(out, pins, m.width, m.edges, pin.offset)
 }
 
 // The records of a side.
@@ -88,15 +90,8 @@ pub fn put_modules(out: &mut Writer, side: &[u8])
         × (out.old.end + record_size * pin_count (modules_in side.now) ≤ length out.old.out.now) }
     ensures { Writes out.old out.new (section_bytes (side_terminals (modules_in side.now))) }
 {
-    let mut place = 0;
-    let mut first = true;
-    let mut gap = 0u8;
-    // no `for`: each module moves the place by its own length
-    while place < side.len() {
-        let head = head_in(side, place);
-        put_module(out, side, head, first, gap);
-        gap = gap_of(side, head);
-        first = false;
-        place = head.end;
+    let mut gap: Option<u8> = None;
+    for m in Modules::new(side) {
+        gap = Some(put_module(out, m, gap));
     }
 }

@@ -1,4 +1,4 @@
-use Rattle.std.proofs.Common.{◌≡◌, ℕ, ◌+◌, Bool, ◌&&◌, leb, List, length, sym, ap, ◌∙◌, ap₂, arith}
+use Rattle.std.proofs.Common.{◌≡◌, ℕ, Bool, ◌&&◌, leb, List, length, sym, ap, ◌∙◌, ap₂, arith}
 use Rattle.modules.specs.Modules.{Module, pin_count}
 use Rattle.modules.specs.Bytes.{modules_in}
 use Rattle.modules.proofs.Lists.{few_modules}

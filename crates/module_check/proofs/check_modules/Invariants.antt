@@ -1,6 +1,6 @@
 -- `module_check::check_modules` meets its contract: the modules passed and the modules left make the side's.
 -- Assumes nothing.
-use Rattle.std.proofs.Common.{◌≡◌, ◌+◌, ◌≤◌, length}
+use Rattle.std.proofs.Common.{◌≡◌, ◌+◌, length}
 use Rattle.modules.specs.Bytes.{modules_in}
 use Rattle.modules.specs.Left.{modules_left}
 use Rattle.module_check.specs.Tests.{all_tests, combined}
