@@ -1,17 +1,9 @@
 -- How the density of a column list is counted: each net once, over the columns from its left end to its right end.
 -- Assumes nothing.
-use Rattle.std.specs.Prelude.{ℕ, ◌+◌, ◌≤◌, ◌<◌, ◌≡◌, List, Bool, cond, ◌&&◌, length, get_or, leb}
+use Rattle.std.specs.Prelude.{ℕ, ◌+◌, ◌<◌, ◌≡◌, List, Bool, cond, ◌&&◌, get_or, leb}
 use Rattle.channel.specs.Density.{Pin}
 use Rattle.channel.specs.Spans.{leftmost, rightmost, spans, sum_last}
-use Rattle.format.specs.Parts.{terminals_in}
 use Rattle.ends.specs.Ends.{pins_of}
-
--- a list that is p+q long beside the two sections of a sound sheet of length l
-pub record AsksDensity (top bottom columns : List ℕ) (p l : ℕ) : Type 0 where
-  pub tops : p ≡ length (terminals_in top)
-  pub long : length columns ≡ p + length (terminals_in bottom)
-  pub few : length columns ≤ 128
-  pub short : l ≤ 64
 
 -- whether net n crosses column c, by its two ends
 abbrev pub net_spans : List Pin → ℕ → ℕ → Bool

@@ -3,21 +3,23 @@
 
 ghost use Rattle.std.specs.Prelude.{◌≡◌, ℕ, ◌≤◌, ◌<◌, length, get_or, replicate};
 ghost use Rattle.channel.specs.Density.{weight, maximum_to, density};
-ghost use Rattle.sheet.specs.Parts.{sheet_in};
+ghost use Rattle.sheet.specs.Sections.{Beside, sheet_held};
 ghost use Rattle.ends.specs.Ends.{pins_of};
-ghost use Rattle.density.specs.Counted.{AsksDensity, within, net_spans, Added, Small, counted_at};
+ghost use Rattle.density.specs.Counted.{within, net_spans, Added, Small, counted_at};
 
 use ends::ends_of;
 use nets::{all_nets, occurs};
+use sheet::Sections;
 
-// The density of a list, from the two sections, the top terminals p and the channel's length.
-pub fn list_density(top: &[u8], bottom: &[u8], columns: &[u8], p: usize, l: usize) -> u32
-    requires { AsksDensity top.now bottom.now columns.now p l }
-    ensures { result ≡ density (sheet_in l top.now bottom.now) columns.now }
+// The density of a list, from the sections of its sheet.
+pub fn list_density(sections: Sections, columns: &[u8]) -> u32
+    requires { Beside sections columns.now }
+    ensures { result ≡ density (sheet_held sections.entry) columns.now }
 {
+    let l = sections.shape.columns;
     let n = columns.len();
     let mut nets: [u16; 128] = [0; 128];
-    all_nets(top, bottom, p, &mut nets[..n]);
+    all_nets(sections.top, sections.bottom, sections.shape.top, &mut nets[..n]);
     let mut counts: [u16; 256] = [0; 256];
     count_nets(&nets[..n], columns, &mut counts);
     u32::from(greatest(&counts, l))

@@ -17,8 +17,11 @@ use Rattle.refusals.specs.declared.ListRefusal.TheVariants.{Sheet as Unsound, Co
 use Rattle.soundness.specs.Read.{sheet_of}
 use Rattle.sheet.specs.declared.Layout.{Layout}
 use Rattle.sheet.specs.declared.Shape.{Shape}
-use Rattle.format.specs.Parts.{bytes_of, terminals_in}
-use Rattle.sheet.specs.Parts.{opened_of, sheet_in}
+use Rattle.sheet.specs.declared.Sections.{Sections}
+use Rattle.sheet.specs.Sections.{Held, sheet_held}
+use Rattle.std.specs.Borrow.{Bor}
+use Rattle.format.specs.Parts.{terminals_in}
+use Rattle.sheet.specs.Parts.{opened_of}
 use Rattle.sheet.proofs.Laws.{Opens, opens, same_sheet, same_shape}
 use Rattle.list.specs.Answer.{side_allowed, all_allowed, first_of, side_amount, first_amount}
 use Rattle.list.specs.Answer.{is_zero, unless, columns_listed, sheet_listed, listed_of}
@@ -79,7 +82,10 @@ unfolding listed_of
 sheet-refused b cs why e = rw e
 
 -- and of one that does, with its layout
-module _ (b cs : List ℕ) (n : Layout) (opening : opened_of b ≡ Ok n) where
+module _ (s : Bor (List ℕ)) (cs : List ℕ) (n : Layout) (opening : opened_of s.now ≡ Ok n) where
+  abbrev b : List ℕ
+  b = s.now
+
   laws : Opens b n
   laws = opens b n opening
 
@@ -99,17 +105,16 @@ module _ (b cs : List ℕ) (n : Layout) (opening : opened_of b ≡ Ok n) where
       ∙ rw (ne_eqb (length cs) (length (sheet_of b).top + length (sheet_of b).bottom) (λ e. h (e ∙ sym pins_counted))))
 
   -- a list that is p+q long, beside the two sections
-  module _ (long : length cs ≡ n.shape.pins) (top bottom : List ℕ) (is_top : top ≡ bytes_of b n.top)
-      (is_bottom : bottom ≡ bytes_of b n.bottom) where
-    pub counted : (n.shape.top ≡ length (terminals_in top)) × (length cs ≡ n.shape.top + length (terminals_in bottom))
+  module _ (long : length cs ≡ n.shape.pins) (m : Sections) (held : Held s n m) where
+    pub counted : (m.shape.top ≡ length (terminals_in m.top.now)) × (length cs ≡ m.shape.top + length (terminals_in m.bottom.now))
     counted =
-        let shape = same_shape b n laws top bottom is_top is_bottom in
+        let shape = same_shape s n laws m held in
         let p = ap (λ (f : Shape). f.top) shape in
-        (p, omega (arith, long, p, ap (λ (f : Shape). f.pins) shape))
+        (p, omega (arith, long, p, ap (λ (f : Shape). f.pins) shape, ap (λ (f : Shape). f.pins) held.shape))
 
-    pub columns-checked : (r : Result Layout ListRefusal) → r ≡ columns_listed (sheet_in n.shape.columns top bottom) cs n → r ≡ listed_of b cs
+    pub columns-checked : (r : Result Layout ListRefusal) → r ≡ columns_listed (sheet_held m) cs n → r ≡ listed_of b cs
     unfolding sheet_listed
     columns-checked r e =
         e
-        ∙ ap (λ (s : Sheet). columns_listed s cs n) (same_sheet b n laws top bottom is_top is_bottom)
+        ∙ ap (λ (s : Sheet). columns_listed s cs n) (same_sheet s n laws m held)
         ∙ sym (sound_listed ∙ rw (eq-eqb (length cs) (length (sheet_of b).top + length (sheet_of b).bottom) (long ∙ pins_counted)))

@@ -14,8 +14,12 @@ use Rattle.channel.specs.Assignment.{is_assignment}
 use Rattle.soundness.specs.Read.{sheet_of}
 use Rattle.sheet.specs.declared.Layout.{Layout}
 use Rattle.sheet.specs.declared.Shape.{Shape}
+use Rattle.sheet.specs.declared.Sections.{Sections}
+use Rattle.sheet.specs.Sections.{Held, sheet_held, Beside}
+use Rattle.std.specs.Borrow.{Bor}
+use Rattle.soundness.proofs.Laws.{read-sound}
 use Rattle.sheet.specs.Parts.{opened_of}
-use Rattle.sheet.proofs.Laws.{Opens, opens}
+use Rattle.sheet.proofs.Laws.{Opens, opens, same_sheet, same_shape}
 use Rattle.list.specs.Answer.{all_allowed, is_zero, first_amount, columns_listed, sheet_listed, listed_as, listed_of}
 use Rattle.list.specs.Returned.{number_of}
 use Rattle.refusals.specs.declared.Refusal.{Refusal}
@@ -52,3 +56,28 @@ assigns b cs n h =
       long = assignment_long (sheet_of b) cs holds ∙ sym (ap (λ (f : Shape). f.pins) laws.shape);
       assigned = holds;
     }
+
+-- beside the sections of its sheet
+module _ (s : Bor (List ℕ)) (cs : List ℕ) (n : Layout) (answer : listed_of s.now cs ≡ Ok n) (m : Sections) (held : Held s n m) where
+  laws : Assigns s.now cs n
+  laws = assigns s.now cs n answer
+
+  pub same : sheet_held m ≡ sheet_of s.now
+  same = same_sheet s n laws.opens m held
+
+  pub beside : Beside m cs
+  beside =
+      let sound = read-sound s.now (sheet_of s.now) laws.opens.reads in
+      let shape = same_shape s n laws.opens m held in
+      let p = ap (λ (f : Shape). f.top) shape in
+      let pins = ap (λ (f : Shape). f.pins) shape in
+      let given = ap (λ (f : Shape). f.pins) held.shape in
+      let whole = laws.opens.shape in
+      let length = ap (λ (f : Shape). f.columns) (held.shape ∙ whole) in
+      record {
+        tops = p;
+        long = omega (arith, laws.long, pins, p, given);
+        few = omega (arith, laws.long, ap (λ (f : Shape). f.pins) whole, sound.counts);
+        some = omega (arith, length, sound.columns);
+        short = omega (arith, length, sound.columns);
+      }

@@ -6,12 +6,12 @@ mod rules;
 
 ghost use Rattle.std.specs.Prelude.{◌≡◌, ◌+◌, length};
 ghost use Rattle.format.specs.Parts.{terminals_in};
-ghost use Rattle.sheet.specs.Parts.{sheet_in};
+ghost use Rattle.sheet.specs.Sections.{sheet_held};
 ghost use Rattle.list.specs.Answer.{listed_of, columns_listed};
 
 use refusals::ListRefusal;
 use rules::{all_allowed, first_amount};
-use sheet::Layout;
+use sheet::{Layout, Sections};
 
 // Checks a column list: 1 to 8 of the sheet, then 12, 13 and 14 of the list; of an assignment it gives its sheet's layout.
 pub fn check(s: &[u8], columns: &[u8]) -> Result<Layout, ListRefusal>
@@ -21,25 +21,22 @@ pub fn check(s: &[u8], columns: &[u8]) -> Result<Layout, ListRefusal>
     if columns.len() != layout.shape.pins {
         return Err(ListRefusal::Count);
     }
-    let top = format::part_in(s, layout.top);
-    let bottom = format::part_in(s, layout.bottom);
-    check_columns(top, bottom, columns, layout)
+    check_columns(layout.sections(s), columns, layout)
 }
 
 // 13 and 14 of a list that is p+q long, from the two sections.
-fn check_columns<'a>(
-    top: &'a [u8],
-    bottom: &'a [u8],
+fn check_columns(
+    sections: Sections,
     columns: &[u8],
     layout: Layout,
 ) -> Result<Layout, ListRefusal>
-    requires { (layout.shape.top ≡ length (terminals_in top.now))
-        × (length columns.now ≡ layout.shape.top + length (terminals_in bottom.now)) }
-    ensures { result ≡ columns_listed (sheet_in layout.shape.columns top.now bottom.now)
-        columns.now layout }
+    requires { (sections.shape.top ≡ length (terminals_in sections.top.now))
+        × (length columns.now ≡ sections.shape.top + length (terminals_in sections.bottom.now)) }
+    ensures { result ≡ columns_listed (sheet_held sections.entry) columns.now layout }
 {
-    let shape = layout.shape;
-    let p = shape.top;
+    let top = sections.top;
+    let bottom = sections.bottom;
+    let p = sections.shape.top;
     let tops = &columns[..p];
     let bottoms = &columns[p..];
     if !all_allowed(top, tops) {

@@ -13,8 +13,6 @@ pub fn measure(s: &[u8], columns: &[u8]) -> Measured
     ensures { result ≡ measured_of s.now columns.now }
 {
     let layout = list::check(s, columns)?;
-    let shape = layout.shape;
-    let top = format::part_in(s, layout.top);
-    let bottom = format::part_in(s, layout.bottom);
-    Ok(list_density(top, bottom, columns, shape.top, shape.columns))
+    let sections = layout.sections(s);
+    Ok(list_density(sections, columns))
 }

@@ -53,3 +53,9 @@ nets-both ts us xs first second p size e g =
     let fills : length first ≡ p = ap length e ∙ length-map ts (λ (t : Terminal). t.net) ∙ sym size in
     let none : length (drop p ys) ≤ length ys - p = rw length-drop (omega arith) in
     rw (take_at first (drop p xs) p fills, drop_of_length-le (drop p ys) none, append-nil, e, g, map-append)
+
+-- stored in front of others, as many as there are terminals
+pub nets-front :
+    (ts us : List Terminal) (ns rest : List ℕ) (n : ℕ) → ns ≡ nets (ts ++ us) → n ≡ length ts + length us
+    → take n (ns ++ rest) ≡ nets (ts ++ us)
+nets-front ts us ns rest n e long = take_at ns rest n (ap length e ∙ length-nets ts us ∙ sym long) ∙ e

@@ -77,11 +77,9 @@ fn put_sides(out: &mut Writer, input: &[u8], layout: Layout, columns: &[u8])
     ensures wrote { Writes out.old out.new (lines (visits_of input.now) (take layout.shape.pins columns.now)) }
     ensures upper_bound { out.new.end ≤ out.old.end + 28 * length columns.now }
 {
-    let shape = layout.shape;
-    let p = shape.top;
-    let pins = shape.pins;
-    let top = format::part_in(input, layout.top);
-    let bottom = format::part_in(input, layout.bottom);
-    put_side(out, Side::Top, top, &columns[..p]);
-    put_side(out, Side::Bottom, bottom, &columns[p..pins]);
+    let p = layout.shape.top;
+    let pins = layout.shape.pins;
+    let sections = layout.sections(input);
+    put_side(out, Side::Top, sections.top, &columns[..p]);
+    put_side(out, Side::Bottom, sections.bottom, &columns[p..pins]);
 }

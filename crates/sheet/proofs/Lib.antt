@@ -1,2 +1,2 @@
-mod Sections
+mod Places
 pub mod Laws

@@ -24,3 +24,11 @@ pub struct Layout {
     pub top: Part,
     pub bottom: Part,
 }
+
+// The sections of a sound sheet, with its shape.
+#[derive(Clone, Copy)]
+pub struct Sections<'a> {
+    pub shape: Shape,
+    pub top: &'a [u8],
+    pub bottom: &'a [u8],
+}

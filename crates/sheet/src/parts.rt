@@ -3,9 +3,10 @@ ghost use Rattle.std.specs.Prelude.{◌≡◌, ◌≤◌};
 ghost use Rattle.format.specs.Format.{of_side};
 ghost use Rattle.format.specs.Parts.{OwnPart};
 ghost use Rattle.soundness.specs.Check.{check_of};
+ghost use Rattle.sheet.specs.Sections.{Held};
 ghost use Rattle.sheet.specs.Parts.{cells_of, layout_of, opened_of, shape_of, section_at, section_of, entry_in, entry_at};
 
-use crate::{Layout, Shape};
+use crate::{Layout, Sections, Shape};
 use format::{Side, count_in, part_in, terminal_at};
 use refusals::Refusal;
 use soundness::check;
@@ -19,6 +20,19 @@ pub fn open(s: &[u8]) -> Result<Layout, Refusal>
 {
     check(s)?;
     Ok(layout_of(s))
+}
+
+impl Layout {
+    // The sections of the sheet that has this layout.
+    pub fn sections(self, s: &[u8]) -> Sections
+        ensures { Held s.entry self result }
+    {
+        Sections {
+            shape: self.shape,
+            top: part_in(s, self.top),
+            bottom: part_in(s, self.bottom),
+        }
+    }
 }
 
 // The layout of a sheet that the check leaves.

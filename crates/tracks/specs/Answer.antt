@@ -3,7 +3,7 @@
 use Rattle.std.specs.Prelude.{ℕ, ◌+◌, ◌≤◌, ◌≡◌, List, ◌++◌, cond, length, take, drop, ltb, Result, Ok, Err}
 use Rattle.channel.specs.Sheet.{Sheet}
 use Rattle.channel.specs.Density.{Pin, pins}
-use Rattle.format.specs.Parts.{terminals_in}
+use Rattle.channel.specs.Cut.{nets}
 use Rattle.soundness.specs.Read.{sheet_of}
 use Rattle.left_edge.specs.declared.Span.{Span}
 use Rattle.left_edge.specs.Lists.{Each}
@@ -15,6 +15,8 @@ use Rattle.tracked.specs.declared.TrackRefusal.{TrackRefusal}
 use Rattle.tracked.specs.declared.TrackRefusal.TheVariants.{Listed, TwoNets, SpanBuffer}
 use Rattle.tracked.specs.declared.Routed.{Routed}
 use Rattle.sheet.specs.declared.Layout.{Layout}
+use Rattle.sheet.specs.declared.Sections.{Sections}
+use Rattle.sheet.specs.Sections.{Beside}
 use Rattle.refusals.specs.declared.ListRefusal.{ListRefusal}
 use Rattle.tracked.specs.Numbers.{count_of}
 use Rattle.tracked.specs.Routed.{no_spans, counts_in, array_in}
@@ -53,11 +55,11 @@ Gives answer xs r = (counts_in r ≡ answer) × (array_in r ≡ spans_with answe
 abbrev pub GivesIn : ℕ → List Pin → List ℕ → ℕ → Result Routed TrackRefusal → Type 0
 GivesIn l ps ns room r = Gives (answer_for ps room (spans_in l ps ns)) (spans_in l ps ns) r
 
--- an assignment that is p+q long beside the two sections of a sound sheet of length l
-pub record AsksTracks (top bottom columns : List ℕ) (p l : ℕ) : Type 0 where
-  pub tops : p ≡ length (terminals_in top)
-  pub long : length columns ≡ p + length (terminals_in bottom)
-  pub few : length columns ≤ 128
-  pub some : 1 ≤ l
-  pub short : l ≤ 64
-  pub inside : Each (λ (c : ℕ). (1 ≤ c) × (c ≤ l)) columns
+-- of an assignment of a sheet
+abbrev pub GivesFor : Sheet → List ℕ → ℕ → Result Routed TrackRefusal → Type 0
+GivesFor s cs room r = GivesIn s.columns (pins (s.top ++ s.bottom) cs) (nets (s.top ++ s.bottom)) room r
+
+-- an assignment beside the sections of its sheet
+pub record AsksTracks (m : Sections) (columns : List ℕ) : Type 0 where
+  pub beside : Beside m columns
+  pub inside : Each (λ (c : ℕ). (1 ≤ c) × (c ≤ m.shape.columns)) columns

@@ -3,20 +3,19 @@
 
 mod method;
 
-ghost use Rattle.std.specs.Prelude.{◌≡◌, ◌++◌, ℕ, ◌≤◌, ◌<◌, length};
-ghost use Rattle.channel.specs.Density.{pins};
-ghost use Rattle.channel.specs.Cut.{nets as nets_of};
-ghost use Rattle.format.specs.Parts.{terminals_in};
+ghost use Rattle.std.specs.Prelude.{◌≡◌, ℕ, ◌≤◌, ◌<◌, length};
 ghost use Rattle.soundness.specs.Read.{sheet_of};
 ghost use Rattle.ends.specs.Ends.{pins_of};
 ghost use Rattle.left_edge.specs.Lists.{Each};
 ghost use Rattle.left_edge.specs.Spans.{spans_of, two_nets};
 ghost use Rattle.order.specs.Keys.{Columns};
-ghost use Rattle.tracks.specs.Answer.{Gives, GivesIn, AsksTracks, tracked_of};
+ghost use Rattle.sheet.specs.Sections.{sheet_held};
+ghost use Rattle.tracks.specs.Answer.{Gives, GivesIn, GivesFor, AsksTracks, tracked_of};
 
 use method::route_keys;
 use nets::all_nets;
 use order::order_nets;
+use sheet::Sections;
 use tracked::{Routed, TrackRefusal};
 
 // Gives the nets of a column list their tracks: 1 to 8 of the sheet, 12, 13 and 14 of the list, then 18 where a column has pins of two nets
@@ -26,29 +25,18 @@ pub fn route(s: &[u8], columns: &[u8], room: usize) -> Result<Routed, TrackRefus
         (spans_of (sheet_of s.now) columns.now) result }
 {
     let layout = list::check(s, columns)?;
-    let shape = layout.shape;
-    let top = format::part_in(s, layout.top);
-    let bottom = format::part_in(s, layout.bottom);
-    route_columns(top, bottom, columns, shape.top, shape.columns, room)
+    route_columns(layout.sections(s), columns, room)
 }
 
-// 18 and 9 of an assignment, from the two sections, the top terminals p and the channel's length.
-fn route_columns<'a>(
-    top: &'a [u8],
-    bottom: &'a [u8],
-    columns: &[u8],
-    p: usize,
-    l: usize,
-    room: usize,
-) -> Result<Routed, TrackRefusal>
-    requires { AsksTracks top.now bottom.now columns.now p l }
-    ensures { GivesIn l (pins (terminals_in top.now ++ terminals_in bottom.now) columns.now)
-        (nets_of (terminals_in top.now ++ terminals_in bottom.now)) room result }
+// 18 and 9 of an assignment, from the sections of its sheet.
+fn route_columns(sections: Sections, columns: &[u8], room: usize) -> Result<Routed, TrackRefusal>
+    requires { AsksTracks sections columns.now }
+    ensures { GivesFor (sheet_held sections.entry) columns.now room result }
 {
     let n = columns.len();
     let mut nets: [u16; 128] = [0; 128];
-    all_nets(top, bottom, p, &mut nets[..n]);
-    route_nets(&nets[..n], columns, l as u8, room)
+    all_nets(sections.top, sections.bottom, sections.shape.top, &mut nets[..n]);
+    route_nets(&nets[..n], columns, sections.shape.columns as u8, room)
 }
 
 // The same from the nets of the pins.

@@ -1,7 +1,11 @@
--- The two sections of an assignment's sheet are what the density is counted from.
 use Rattle.std.proofs.Common.{sym}
-use Rattle.measure.proofs.Measures.{laid}
+use Rattle.list.proofs.Laws.{beside}
+use Rattle.measure.proofs.Measures.{density_counted}
 use Rattle.measure.proofs.measure.Goals as goal
 
 pub list_density-requires : goal.list_density-requires
-list_density-requires c = laid _ _ _ (sym c.in_ok-layout.ensures) _ _ c.part_in-top.ensures.bytes c.part_in-bottom.ensures.bytes
+list_density-requires c = beside c.args.s c.args.columns.now _ (sym c.in_ok-layout.ensures) _ c.sections-sections.ensures
+
+pub returns : goal.returns
+returns c =
+    density_counted c.args.s c.args.columns.now _ (sym c.in_ok-layout.ensures) _ c.sections-sections.ensures _ c.list_density.ensures

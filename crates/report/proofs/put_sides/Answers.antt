@@ -21,5 +21,5 @@ slice_bounds-put_side-start c = pins-count c.args.input.now c.args.layout c.requ
 pub returns-clause-wrote : goal.returns-clause-wrote
 returns-clause-wrote c =
     same_written (side-lines c.args.input.now c.args.layout c.requires.0 c.args.columns.now c.requires.1 _ _
-    c.part_in-top.ensures.bytes
-    c.part_in-bottom.ensures.bytes) (behind c.put_side.ensures.wrote c.put_side-2.ensures.wrote)
+    c.sections-sections.ensures.top.bytes
+    c.sections-sections.ensures.bottom.bytes) (behind c.put_side.ensures.wrote c.put_side-2.ensures.wrote)

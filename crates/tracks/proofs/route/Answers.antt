@@ -5,13 +5,11 @@ use Rattle.tracks.proofs.Sheets.{list_refused, laid, tracks_given}
 use Rattle.tracks.proofs.route.Goals as goal
 
 pub route_columns-requires : goal.route_columns-requires
-route_columns-requires c =
-    laid _ _ _ (sym c.in_ok-layout.ensures) _ _ c.part_in-top.ensures.bytes c.part_in-bottom.ensures.bytes
+route_columns-requires c = laid c.args.s c.args.columns.now _ (sym c.in_ok-layout.ensures) _ c.sections.ensures
 
 pub returns-in_err-layout : goal.returns-in_err-layout
 returns-in_err-layout c = list_refused _ _ _ _ (sym c.in_err-layout.ensures) _ (search rules)
 
 pub returns : goal.returns
 returns c =
-    tracks_given _ _ _ (sym c.in_ok-layout.ensures) _ _ c.part_in-top.ensures.bytes
-    c.part_in-bottom.ensures.bytes _ _ c.route_columns.ensures
+    tracks_given c.args.s c.args.columns.now _ (sym c.in_ok-layout.ensures) _ c.sections.ensures _ _ c.route_columns.ensures

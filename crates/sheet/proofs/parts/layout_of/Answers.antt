@@ -8,7 +8,7 @@ use Rattle.trailer.specs.declared.Trailer.{Trailer}
 use Rattle.soundness.specs.Check.{check_of}
 use Rattle.trailer.specs.Trailer.{trailer_of, TrailerRead}
 use Rattle.sheet.specs.Parts.{layout_of}
-use Rattle.sheet.proofs.Sections.{sound_form, sound-limits}
+use Rattle.sheet.proofs.Places.{sound_form, sound-limits}
 use Rattle.sheet.proofs.parts.layout_of.Goals as goal
 
 -- a sheet that the check leaves has its trailer's bytes

@@ -4,7 +4,7 @@ use mathlib.Core.Path.{◌∙◌, ap}
 use mathlib.Core.List.{List}
 use Prim.Native.Nat.{ℕ}
 use Rattle.sheet.specs.Parts.{entry_in}
-use Rattle.sheet.proofs.Sections.{entry-section}
+use Rattle.sheet.proofs.Places.{entry-section}
 use Rattle.sheet.proofs.parts.record_at.Goals as goal
 
 pub returns : goal.returns

@@ -4,7 +4,7 @@ use Rattle.std.proofs.Common.{Some}
 use mathlib.Core.Path.{◌∙◌, ap}
 use native.Mathlib.Omega.{arith}
 use Rattle.sheet.specs.Parts.{entry_in}
-use Rattle.sheet.proofs.Sections.{entry_found, entry-nothing}
+use Rattle.sheet.proofs.Places.{entry_found, entry-nothing}
 use Rattle.sheet.proofs.parts.record_in.Goals as goal
 
 pub returns-then-place-eq0 : goal.returns-then-place-eq0

@@ -6,7 +6,7 @@ use native.Mathlib.Omega.{arith}
 use Rattle.format.specs.Format.{of_side}
 use Rattle.sheet.specs.declared.Layout.{Layout}
 use Rattle.sheet.specs.Parts.{layout_of}
-use Rattle.sheet.proofs.Sections.{opened_sound, opened_refused, refused-section, refused_at, sound-section, sound-at}
+use Rattle.sheet.proofs.Places.{opened_sound, opened_refused, refused-section, refused_at, sound-section, sound-at}
 use Rattle.sheet.proofs.parts.section.Goals as goal
 
 pub returns-in-Ok : goal.returns-in-Ok

@@ -2,7 +2,7 @@
 -- Assumes nothing.
 use mathlib.Core.Path.{sym, ◌∙◌, ap}
 use Rattle.sheet.specs.declared.Layout.{Layout}
-use Rattle.sheet.proofs.Sections.{opened_sound, opened_refused, layout_shape, refused-shape}
+use Rattle.sheet.proofs.Places.{opened_sound, opened_refused, layout_shape, refused-shape}
 use Rattle.sheet.proofs.parts.shape_of.Goals as goal
 
 pub returns-in-Ok : goal.returns-in-Ok
