@@ -1,11 +1,11 @@
--- `walk::left_numbers` meets its contract: none, or those that `back` finds.
+-- `Walk::left_numbers` meets its contract: none, or those that `back` finds.
 -- Assumes nothing.
 use Rattle.std.proofs.Common.{◌∙◌}
 use Rattle.bits.proofs.Laws.{bit_zero}
 use Rattle.walk.proofs.Choices.{no_lefts}
-use Rattle.walk.proofs.left_numbers.Goals as goal
+use Rattle.walk.proofs.Walk.left_numbers.Goals as goal
 
 pub returns-then-left-j : goal.returns-then-left-j
 returns-then-left-j c =
     let a = c.args in
-    λ y h. bit_zero y ∙ no_lefts a.rules.now.words a.q a.m y c.if-left-j.true
+    λ y h. bit_zero y ∙ no_lefts a.self.rules.now.words a.self.q a.m y c.if-left-j.true

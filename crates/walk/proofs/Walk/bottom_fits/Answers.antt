@@ -1,17 +1,17 @@
--- `walk::bottom_fits` meets its contract: the question to the table is that of the contract.
+-- `Walk::bottom_fits` meets its contract: the question to the table is that of the contract.
 -- Assumes nothing.
 use Rattle.std.proofs.Common.{◌∙◌, sym, ℕ, ◌-◌, ap, eqb, ap₂}
 use Rattle.bits.specs.Bits.{bit_of}
 use Rattle.walk.proofs.Choices.{left_same, pin-below}
-use Rattle.walk.proofs.bottom_fits.Goals as goal
+use Rattle.walk.proofs.Walk.bottom_fits.Goals as goal
 
 pub returns-then-bit : goal.returns-then-bit
 returns-then-bit c =
     let a = c.args in
     let number = a.m.c - a.m.j in
-    pin-below a.work.now a.rules.now.words a.grid a.p a.q a.m _ c.if-j-eq0.false c.if-c-j.false
+    pin-below a.self.work.now a.self.rules.now.words a.self.grid a.self.p a.self.q a.m _ c.if-j-eq0.false c.if-c-j.false
     (ap₂ bit_of (sym c.steps_to-by.ensures) (ap (λ (n : ℕ). n - number) (sym c.stands_at-next.ensures))
     ∙ sym c.bit.ensures
     ∙ c.if-bit.true)
     (c.empty_fits.ensures
-    ∙ left_same a.work.now a.rules.now.words a.grid a.p a.m _ (λ (y : ℕ). eqb y number) c.single.ensures)
+    ∙ left_same a.self.work.now a.self.rules.now.words a.self.grid a.self.p a.m _ (λ (y : ℕ). eqb y number) c.single.ensures)
