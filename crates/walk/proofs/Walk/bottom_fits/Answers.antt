@@ -7,11 +7,11 @@ use Rattle.walk.proofs.Walk.bottom_fits.Goals as goal
 
 pub returns-then-bit : goal.returns-then-bit
 returns-then-bit c =
-    let a = c.args in
-    let number = a.m.c - a.m.j in
-    pin-below a.self.work.now a.self.rules.now.words a.self.grid a.self.p a.self.q a.m _ c.if-j-eq0.false c.if-c-j.false
+    let v = c.args.self in
+    let m = c.args.m in
+    let number = m.c - m.j in
+    pin-below v m _ c.if-j-eq0.false c.if-c-j.false
     (ap₂ bit_of (sym c.steps_to-by.ensures) (ap (λ (n : ℕ). n - number) (sym c.stands_at-next.ensures))
     ∙ sym c.bit.ensures
     ∙ c.if-bit.true)
-    (c.empty_fits.ensures
-    ∙ left_same a.self.work.now a.self.rules.now.words a.self.grid a.self.p a.m _ (λ (y : ℕ). eqb y number) c.single.ensures)
+    (c.empty_fits.ensures ∙ left_same v m _ (λ (y : ℕ). eqb y number) c.single.ensures)

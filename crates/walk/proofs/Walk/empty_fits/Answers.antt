@@ -5,6 +5,4 @@ use Rattle.walk.proofs.Choices.{rows_left}
 use Rattle.walk.proofs.Walk.empty_fits.Goals as goal
 
 pub returns : goal.returns
-returns c =
-    let a = c.args in
-    c.rows_meet.ensures ∙ rows_left a.self.work.now a.self.rules.now.words a.self.grid a.self.p a.m a.lefts _ c.if-left-i.false c.min-high.ensures
+returns c = c.rows_meet.ensures ∙ rows_left c.args.self c.args.m _ _ c.if-left-i.false c.min-high.ensures

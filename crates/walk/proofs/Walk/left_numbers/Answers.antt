@@ -6,6 +6,4 @@ use Rattle.walk.proofs.Choices.{no_lefts}
 use Rattle.walk.proofs.Walk.left_numbers.Goals as goal
 
 pub returns-then-left-j : goal.returns-then-left-j
-returns-then-left-j c =
-    let a = c.args in
-    λ y h. bit_zero y ∙ no_lefts a.self.rules.now.words a.self.q a.m y c.if-left-j.true
+returns-then-left-j c = λ y h. bit_zero y ∙ no_lefts c.args.self c.args.m y c.if-left-j.true

@@ -6,6 +6,4 @@ use Rattle.walk.proofs.Walk.top_fits.Goals as goal
 
 pub returns-then-row-self : goal.returns-then-row-self
 returns-then-row-self c =
-    let a = c.args in
-    c.rows_meet.ensures
-    ∙ row_here a.self.work.now a.self.rules.now.words a.self.grid a.self.p a.m a.lefts c.if-i-eq0.false c.if-c-i.false c.if-row-self.true
+    c.rows_meet.ensures ∙ row_here c.args.self c.args.m _ c.if-i-eq0.false c.if-c-i.false c.if-row-self.true

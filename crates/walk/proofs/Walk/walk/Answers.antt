@@ -7,16 +7,10 @@ use Rattle.walk.proofs.Walk.walk.Goals as goal
 
 pub loop-m-preserved : goal.loop-m-preserved
 loop-m-preserved c =
-    let a = c.args in
     let o = c.loop-m in (
-      rw c.behind-m.ensures (walks_on a.self.p a.self.q (letter_number c.choose-letter.result) o.m c.loop-m-test.true o.invariant.0),
-      walk_more a.self.work.now a.self.rules.now.words a.self.grid a.self.p a.self.q (letter_number c.choose-letter.result) o.m _ o.columns _
-          c.loop-m-test.true c.choose-letter.ensures c.behind-m.ensures c.put.ensures
-          ∙ o.invariant.1,
+      rw c.behind-m.ensures (walks_on _ _ (letter_number c.choose-letter.result) _ c.loop-m-test.true o.invariant.0),
+      walk_more c.args.self _ o.m _ _ _ c.loop-m-test.true c.choose-letter.ensures c.behind-m.ensures c.put.ensures ∙ o.invariant.1,
     )
 
 pub returns : goal.returns
-returns c =
-    let a = c.args in
-    let o = c.loop-m in
-    walk_none a.self.work.now a.self.rules.now.words a.self.grid a.self.p a.self.q o.m.c o.m o.columns c.loop-m-test.false ∙ o.invariant.1
+returns c = walk_none c.args.self _ c.loop-m.m _ c.loop-m-test.false ∙ c.loop-m.invariant.1
