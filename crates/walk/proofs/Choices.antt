@@ -7,12 +7,12 @@ use borrow.Author.Tests.{lt-leb}
 use Rattle.channel.specs.Below.{any_below}
 use Rattle.channel.proofs.Below.{any_below_cong}
 use Rattle.bits.specs.Bits.{bit_of}
-use Rattle.bits.proofs.Laws.{word_cong}
+use Rattle.bits.proofs.Laws.{bit_zero, word_cong}
 use Rattle.table.specs.Planes.{held_at, meeting}
 use Rattle.letters.specs.declared.Progress.{Progress}
 use Rattle.letters.specs.Letters.{has_top_pin, has_bottom_pin, behind, written}
 use Rattle.walk.specs.declared.Walk.{Walk}
-use Rattle.walk.specs.Walk.{steps_to, stands_at, number_fits, lefts, row_fits, row_meets, some_left, some_here, empty_meets, top_meets}
+use Rattle.walk.specs.Walk.{steps_to, stands_at, lefts, row_fits, row_meets, some_left, some_here, empty_meets, top_meets}
 use Rattle.walk.specs.Walk.{empty_fits, top_fits, bottom_fits, choice_in, walk_columns}
 use Rattle.walk.specs.Walking.{AsksStep}
 
@@ -25,8 +25,8 @@ module _ (v : Walk) (m : Progress) where
   rules = v.rules.now.words
 
   -- no number is left of the column where all pins are to stand in it or behind
-  pub no_lefts : (y : ℕ) → m.c - 1 < m.j → false ≡ lefts rules v.q m y
-  no_lefts y h = rw (lt-leb m.j (m.c - 1) h)
+  pub no_lefts : m.c - 1 < m.j → (y : ℕ) → bit_of 0 y ≡ lefts rules v.q m y
+  no_lefts h y = rw (lt-leb m.j (m.c - 1) h) (bit_zero y)
 
   -- the rows asked
   pub rows_left :
@@ -55,13 +55,6 @@ module _ (v : Walk) (m : Progress) where
       only : (r : ℕ) (f : ℕ → Bool) → any_below (suc r) (λ (x : ℕ). leb r x && f x) ≡ f r
       only r f = rw (le-leb r r (omega arith), none r r f (omega arith)) (or-false (f r))
 
-  -- a bottom pin in the column
-  pub pin-below :
-      (r : Bool) → (m.j ≡ 0 → ⊥) → m.j ≤ m.c → number_fits rules v.q m (m.c - m.j) ≡ true
-      → r ≡ some_left work rules v.grid v.p m (λ (y : ℕ). eqb y (m.c - m.j)) → r ≡ bottom_fits work rules v.grid v.p v.q m
-  pin-below r some_pin_lem room near e =
-      rw (lt-ltb 0 m.j (omega (arith, some_pin_lem)), le-leb m.j m.c room, near) e
-
   -- the questions by a word are the questions by the set that it holds
   module _ (w : ℕ) (f : ℕ → Bool) (same : (y : ℕ) → y < 64 → bit_of w y ≡ f y) where
     row_same : (x : ℕ) → row_meets work rules v.grid v.p m (bit_of w) x ≡ row_meets work rules v.grid v.p m f x
@@ -78,6 +71,15 @@ module _ (v : Walk) (m : Progress) where
     pub here_same : top_meets work rules v.grid v.p m w ≡ some_here work rules v.grid v.p m f
     here_same =
         ap (λ (t : Bool). ltb 0 m.i && (leb m.i m.c && (ltb (m.c - m.i) v.grid.rows && t))) (row_same (m.c - m.i))
+
+  -- a bottom pin in the column
+  pub pin_below :
+      (by next w : ℕ) (r : Bool) → (m.j ≡ 0 → ⊥) → m.j ≤ m.c → next ≡ stands_at m.j v.q m.bottom → by ≡ steps_to rules 1 m.j v.q
+      → bit_of by (next - (m.c - m.j)) ≡ true → ((y : ℕ) → y < 64 → bit_of w y ≡ eqb y (m.c - m.j))
+      → r ≡ empty_meets work rules v.grid v.p m w → r ≡ bottom_fits work rules v.grid v.p v.q m
+  pin_below by next w r some left en eb near same e =
+      rw (lt-ltb 0 m.j (omega (arith, some)), le-leb m.j m.c left, rw (en, eb) at near)
+      (e ∙ left_same w (λ (y : ℕ). eqb y (m.c - m.j)) same)
 
   -- the letter, from the answers to the three questions, where the first two are of the numbers left of the column
   module _ (w : ℕ) (same : (y : ℕ) → y < 64 → bit_of w y ≡ lefts rules v.q m y) where
@@ -97,11 +99,17 @@ module _ (v : Walk) (m : Progress) where
     unfolding choice_in
     chose_top e t = rw (empty_says e, top_says t)
 
-    pub chose_other :
-        (b : Bool) → empty_meets work rules v.grid v.p m w ≡ false → top_meets work rules v.grid v.p m w ≡ false
-        → bottom_fits work rules v.grid v.p v.q m ≡ b → cond b 2 3 ≡ choice_in work rules v.grid v.p v.q m
+    pub chose_bottom :
+        empty_meets work rules v.grid v.p m w ≡ false → top_meets work rules v.grid v.p m w ≡ false
+        → bottom_fits work rules v.grid v.p v.q m ≡ true → 2 ≡ choice_in work rules v.grid v.p v.q m
     unfolding choice_in
-    chose_other b e t u = rw (empty_says e, top_says t, u)
+    chose_bottom e t b = rw (empty_says e, top_says t, b)
+
+    pub chose_both :
+        empty_meets work rules v.grid v.p m w ≡ false → top_meets work rules v.grid v.p m w ≡ false
+        → bottom_fits work rules v.grid v.p v.q m ≡ false → 3 ≡ choice_in work rules v.grid v.p v.q m
+    unfolding choice_in
+    chose_both e t b = rw (empty_says e, top_says t, b)
 
 -- the walk goes on with what it needs
 pub walks_on : (p q letter : ℕ) (m : Progress) → 0 < m.c → AsksStep p q m → AsksStep p q (behind letter m)

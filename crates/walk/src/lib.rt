@@ -49,6 +49,7 @@ fn stands_at(i: usize, n: usize, at: usize) -> usize
 
 impl<'a> Walk<'a> {
     // The numbers left of the column.
+    #[tactic(auto, using(crate::proofs::Choices::no_lefts))]
     fn left_numbers(self, m: Progress) -> u64
         requires { (0 < m.c) × (m.c ≤ 64) × (m.j ≤ self.q) × (m.j < self.q → m.c < m.bottom) }
         ensures { let w = self.entry in (y : ℕ) → y < 64 → bit_of result y ≡ lefts w.rules.now.words w.q m y }
@@ -76,6 +77,7 @@ impl<'a> Walk<'a> {
     }
 
     // Whether the column can be empty.
+    #[tactic(auto, using(crate::proofs::Choices::rows_left))]
     fn empty_fits(self, m: Progress, lefts: u64) -> bool
         requires { AsksStep self.p self.q m × (0 < m.c) }
         ensures { let w = self.entry in result ≡ empty_meets w.work.now w.rules.now.words w.grid w.p m lefts }
@@ -90,6 +92,7 @@ impl<'a> Walk<'a> {
     }
 
     // Whether it can hold a top pin alone.
+    #[tactic(auto, using(crate::proofs::Choices::row_here))]
     fn top_fits(self, m: Progress, lefts: u64) -> bool
         requires { AsksStep self.p self.q m × (0 < m.c) }
         ensures { let w = self.entry in result ≡ top_meets w.work.now w.rules.now.words w.grid w.p m lefts }
@@ -120,6 +123,7 @@ impl<'a> Walk<'a> {
     }
 
     // The smallest letter after which the rest can still be placed.
+    #[tactic(auto, using(crate::proofs::Choices::chose_empty, crate::proofs::Choices::chose_top, crate::proofs::Choices::chose_bottom, crate::proofs::Choices::chose_both))]
     fn choose(self, m: Progress) -> Letter
         requires { AsksStep self.p self.q m × (0 < m.c) }
         ensures { let w = self.entry in letter_number result ≡ choice_in w.work.now w.rules.now.words w.grid w.p w.q m }
@@ -138,6 +142,7 @@ impl<'a> Walk<'a> {
     }
 
     // Writes the columns of the walk over the table.
+    #[tactic(auto, using(crate::proofs::Choices::walk_none))]
     pub fn walk(self, l: usize, columns: &mut [u8])
         requires { (l ≤ 64) × (self.p + self.q ≤ length columns.old) }
         ensures { let w = self.entry in columns.new ≡ walk_columns w.work.now w.rules.now.words w.grid w.p w.q l
