@@ -24,29 +24,41 @@ module _ (v : Walk) (m : Progress) where
   abbrev rules : List ℕ
   rules = v.rules.now.words
 
+  abbrev row : (ℕ → Bool) → ℕ → Bool
+  row = row_meets work rules v.grid v.p m
+
+  abbrev empty : ℕ → Bool
+  empty = empty_meets work rules v.grid v.p m
+
+  abbrev top : ℕ → Bool
+  top = top_meets work rules v.grid v.p m
+
+  abbrev bottom : Bool
+  bottom = bottom_fits work rules v.grid v.p v.q m
+
+  abbrev choice : ℕ
+  choice = choice_in work rules v.grid v.p v.q m
+
   -- no number is left of the column where all pins are to stand in it or behind
   pub no_lefts : m.c - 1 < m.j → (y : ℕ) → bit_of 0 y ≡ lefts rules v.q m y
   no_lefts h y = rw (lt-leb m.j (m.c - 1) h) (bit_zero y)
 
   -- the rows asked
-  pub rows_left :
-      (w high : ℕ) → m.i ≤ m.c - 1 → high ≡ min (m.c - 1 - m.i) (v.grid.rows - 1)
-      → meeting work v.grid m.i m.j 0 high (stands_at m.i v.p m.top) (steps_to rules 0 m.i v.p) w ≡ empty_meets work rules v.grid v.p m w
+  abbrev asked : ℕ → ℕ → ℕ → Bool
+  asked low high w = meeting work v.grid m.i m.j low high (stands_at m.i v.p m.top) (steps_to rules 0 m.i v.p) w
+
+  pub rows_left : (w high : ℕ) → m.i ≤ m.c - 1 → high ≡ min (m.c - 1 - m.i) (v.grid.rows - 1) → asked 0 high w ≡ empty w
   unfolding meeting
   rows_left w high h eh =
       rw (le-leb m.i (m.c - 1) h, eh)
-      (any_below_cong (suc (min (m.c - 1 - m.i) (v.grid.rows - 1)))
-      (λ (x : ℕ). leb 0 x && row_meets work rules v.grid v.p m (bit_of w) x) (row_meets work rules v.grid v.p m (bit_of w))
+      (any_below_cong (suc (min (m.c - 1 - m.i) (v.grid.rows - 1))) (λ (x : ℕ). leb 0 x && row (bit_of w) x) (row (bit_of w))
       (λ x l. rw (leb-zero x)))
 
-  pub row_here :
-      (w : ℕ) → (m.i ≡ 0 → ⊥) → m.i ≤ m.c → m.c - m.i < v.grid.rows
-      → meeting work v.grid m.i m.j (m.c - m.i) (m.c - m.i) (stands_at m.i v.p m.top) (steps_to rules 0 m.i v.p) w
-      ≡ top_meets work rules v.grid v.p m w
+  pub row_here : (w : ℕ) → (m.i ≡ 0 → ⊥) → m.i ≤ m.c → m.c - m.i < v.grid.rows → asked (m.c - m.i) (m.c - m.i) w ≡ top w
   unfolding meeting
-  row_here w some_pin_lem left inside =
-      rw (lt-ltb 0 m.i (omega (arith, some_pin_lem)), le-leb m.i m.c left, lt-ltb (m.c - m.i) v.grid.rows inside)
-      (only (m.c - m.i) (row_meets work rules v.grid v.p m (bit_of w)))
+  row_here w some left inside =
+      rw (lt-ltb 0 m.i (omega (arith, some)), le-leb m.i m.c left, lt-ltb (m.c - m.i) v.grid.rows inside)
+      (only (m.c - m.i) (row (bit_of w)))
     where
       none : (n r : ℕ) (f : ℕ → Bool) → n ≤ r → any_below n (λ (x : ℕ). leb r x && f x) ≡ false
       none zero r f h = refl
@@ -57,57 +69,48 @@ module _ (v : Walk) (m : Progress) where
 
   -- the questions by a word are the questions by the set that it holds
   module _ (w : ℕ) (f : ℕ → Bool) (same : (y : ℕ) → y < 64 → bit_of w y ≡ f y) where
-    row_same : (x : ℕ) → row_meets work rules v.grid v.p m (bit_of w) x ≡ row_meets work rules v.grid v.p m f x
+    row_same : (x : ℕ) → row (bit_of w) x ≡ row f x
     row_same x =
         ap (λ (t : Bool). row_fits work rules v.grid v.p m x && t)
         (word_cong _ _ (λ y l. ap (λ (t : Bool). held_at work v.grid m.i m.j x y && t) (same y l)))
 
-    pub left_same : empty_meets work rules v.grid v.p m w ≡ some_left work rules v.grid v.p m f
+    left_same : empty w ≡ some_left work rules v.grid v.p m f
     left_same =
         ap (λ (t : Bool). leb m.i (m.c - 1) && t)
-        (any_below_cong (suc (min (m.c - 1 - m.i) (v.grid.rows - 1))) (row_meets work rules v.grid v.p m (bit_of w))
-        (row_meets work rules v.grid v.p m f) (λ x l. row_same x))
+        (any_below_cong (suc (min (m.c - 1 - m.i) (v.grid.rows - 1))) (row (bit_of w)) (row f) (λ x l. row_same x))
 
-    pub here_same : top_meets work rules v.grid v.p m w ≡ some_here work rules v.grid v.p m f
-    here_same =
-        ap (λ (t : Bool). ltb 0 m.i && (leb m.i m.c && (ltb (m.c - m.i) v.grid.rows && t))) (row_same (m.c - m.i))
+    here_same : top w ≡ some_here work rules v.grid v.p m f
+    here_same = ap (λ (t : Bool). ltb 0 m.i && (leb m.i m.c && (ltb (m.c - m.i) v.grid.rows && t))) (row_same (m.c - m.i))
 
   -- a bottom pin in the column
   pub pin_below :
       (by next w : ℕ) (r : Bool) → (m.j ≡ 0 → ⊥) → m.j ≤ m.c → next ≡ stands_at m.j v.q m.bottom → by ≡ steps_to rules 1 m.j v.q
-      → bit_of by (next - (m.c - m.j)) ≡ true → ((y : ℕ) → y < 64 → bit_of w y ≡ eqb y (m.c - m.j))
-      → r ≡ empty_meets work rules v.grid v.p m w → r ≡ bottom_fits work rules v.grid v.p v.q m
+      → bit_of by (next - (m.c - m.j)) ≡ true → ((y : ℕ) → y < 64 → bit_of w y ≡ eqb y (m.c - m.j)) → r ≡ empty w → r ≡ bottom
   pin_below by next w r some left en eb near same e =
       rw (lt-ltb 0 m.j (omega (arith, some)), le-leb m.j m.c left, rw (en, eb) at near)
       (e ∙ left_same w (λ (y : ℕ). eqb y (m.c - m.j)) same)
 
   -- the letter, from the answers to the three questions, where the first two are of the numbers left of the column
   module _ (w : ℕ) (same : (y : ℕ) → y < 64 → bit_of w y ≡ lefts rules v.q m y) where
-    empty_says : {t : Bool} → empty_meets work rules v.grid v.p m w ≡ t → empty_fits work rules v.grid v.p v.q m ≡ t
+    empty_says : {t : Bool} → empty w ≡ t → empty_fits work rules v.grid v.p v.q m ≡ t
     empty_says h = sym (left_same w (lefts rules v.q m) same) ∙ h
 
-    top_says : {t : Bool} → top_meets work rules v.grid v.p m w ≡ t → top_fits work rules v.grid v.p v.q m ≡ t
+    top_says : {t : Bool} → top w ≡ t → top_fits work rules v.grid v.p v.q m ≡ t
     top_says h = sym (here_same w (lefts rules v.q m) same) ∙ h
 
-    pub chose_empty : empty_meets work rules v.grid v.p m w ≡ true → 0 ≡ choice_in work rules v.grid v.p v.q m
+    pub chose_empty : empty w ≡ true → 0 ≡ choice
     unfolding choice_in
     chose_empty e = rw (empty_says e)
 
-    pub chose_top :
-        empty_meets work rules v.grid v.p m w ≡ false → top_meets work rules v.grid v.p m w ≡ true
-        → 1 ≡ choice_in work rules v.grid v.p v.q m
+    pub chose_top : empty w ≡ false → top w ≡ true → 1 ≡ choice
     unfolding choice_in
     chose_top e t = rw (empty_says e, top_says t)
 
-    pub chose_bottom :
-        empty_meets work rules v.grid v.p m w ≡ false → top_meets work rules v.grid v.p m w ≡ false
-        → bottom_fits work rules v.grid v.p v.q m ≡ true → 2 ≡ choice_in work rules v.grid v.p v.q m
+    pub chose_bottom : empty w ≡ false → top w ≡ false → bottom ≡ true → 2 ≡ choice
     unfolding choice_in
     chose_bottom e t b = rw (empty_says e, top_says t, b)
 
-    pub chose_both :
-        empty_meets work rules v.grid v.p m w ≡ false → top_meets work rules v.grid v.p m w ≡ false
-        → bottom_fits work rules v.grid v.p v.q m ≡ false → 3 ≡ choice_in work rules v.grid v.p v.q m
+    pub chose_both : empty w ≡ false → top w ≡ false → bottom ≡ false → 3 ≡ choice
     unfolding choice_in
     chose_both e t b = rw (empty_says e, top_says t, b)
 
@@ -137,9 +140,8 @@ module _ (v : Walk) where
   columns_from = walk_columns v.work.now v.rules.now.words v.grid v.p v.q
 
   letter_more :
-      (left letter : ℕ) (m m' : Progress) (columns columns' : List ℕ) → 0 < left
-      → letter ≡ choice_in v.work.now v.rules.now.words v.grid v.p v.q m → m' ≡ behind letter m → columns' ≡ written v.p letter m columns
-      → columns_from (left - 1) m' columns' ≡ columns_from left m columns
+      (left letter : ℕ) (m m' : Progress) (columns columns' : List ℕ) → 0 < left → letter ≡ choice v m → m' ≡ behind letter m
+      → columns' ≡ written v.p letter m columns → columns_from (left - 1) m' columns' ≡ columns_from left m columns
   unfolding walk_columns
   letter_more zero letter m m' columns columns' h e em ec = elim h [ ]
   letter_more (suc left) letter m m' columns columns' h e em ec =
@@ -147,9 +149,8 @@ module _ (v : Walk) where
       rw (em, ec, e, less)
 
   pub walk_more :
-      (letter : ℕ) (m m' : Progress) (columns columns' : List ℕ) → 0 < m.c
-      → letter ≡ choice_in v.work.now v.rules.now.words v.grid v.p v.q m → m' ≡ behind letter m → columns' ≡ written v.p letter m columns
-      → columns_from m'.c m' columns' ≡ columns_from m.c m columns
+      (letter : ℕ) (m m' : Progress) (columns columns' : List ℕ) → 0 < m.c → letter ≡ choice v m → m' ≡ behind letter m
+      → columns' ≡ written v.p letter m columns → columns_from m'.c m' columns' ≡ columns_from m.c m columns
   walk_more letter m m' columns columns' h e em ec = rw em (letter_more m.c letter m (behind letter m) columns columns' h e refl ec)
 
   pub walk_none : (left : ℕ) (m : Progress) (columns : List ℕ) → left ≤ 0 → columns ≡ columns_from left m columns
