@@ -24,7 +24,7 @@ pub struct Walk<'a> {
     pub grid: Grid,
     pub p: usize,
     pub q: usize,
-    pub ghost lies: { AsksWalk work.now grid p q },
+    ghost lies: { AsksWalk work.now grid p q },
 }
 
 // The steps from the last pin to be placed to the one behind it.
