@@ -1,12 +1,8 @@
 -- Where a pin and the pin before it can stand: the table, which counts a side's columns from the number of its pins, says what the
 -- model says.
 -- Assumes nothing.
-use Prim.Native.Nat.{ℕ, suc, ◌+◌, ◌-◌, ◌≤◌, ◌<◌}
-use mathlib.Core.Path.{◌≡◌, sym, ◌∙◌, ap, ap₂}
-use mathlib.Core.List.{List}
-use mathlib.Core.Bool.{Bool, false, ◌&&◌, and_assoc, and-false}
-use native.Mathlib.Omega.{arith}
-use lib.ListN.{length}
+use Rattle.std.proofs.Common.{ℕ, suc, ◌+◌, ◌-◌, ◌≤◌, ◌<◌, ◌≡◌, sym, ◌∙◌, ap, ap₂, List, Bool, false, ◌&&◌, arith, length}
+use mathlib.Core.Bool.{and_assoc, and-false}
 use Rattle.channel.specs.Below.{any_below}
 use Rattle.channel.proofs.Below.{any_below_cong, any_below-none, any_below-and, any_below_turn, any_below-from-start, any_below_nested}
 use Rattle.channel.specs.Sheet.{Terminal}

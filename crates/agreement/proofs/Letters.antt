@@ -1,14 +1,9 @@
 -- Over a filled table, the letter that the walk chooses for a column is the model's.
 -- Assumes nothing.
-use Prim.Native.Nat.{ℕ, zero, suc, min, ◌+◌, ◌-◌, ◌≤◌, ◌<◌}
-use mathlib.Core.Path.{◌≡◌, refl, sym, ◌∙◌, ap, ap₂, fun_ext}
-use mathlib.Core.List.{List}
-use mathlib.Core.Bool.{Bool, true, false, cond, ◌&&◌, ◌||◌, and_comm, and_assoc, and-eq-true_iff}
-use native.Mathlib.Omega.{arith}
-use native.Mathlib.Numerals.{add-one}
-use lib.ListN.{length}
-use lib.Dec.{leb, ltb, eqb}
-use borrow.Author.Tests.{leb-true, le-leb, ltb-true, lt-ltb, eqb-true, eqb-false, eq-eqb}
+use Rattle.std.proofs.Common.{ℕ, zero, suc, min, ◌+◌, ◌-◌, ◌≤◌, ◌<◌, ◌≡◌, refl, sym, ◌∙◌, ap, ap₂, List, Bool, true, false, cond, ◌&&◌, ◌||◌, arith, add-one, length, leb, ltb, eqb, leb-true, le-leb, ltb-true, lt-ltb, eqb-true, eq-eqb}
+use mathlib.Core.Path.{fun_ext}
+use mathlib.Core.Bool.{and_comm, and_assoc, and-eq-true_iff}
+use borrow.Author.Tests.{eqb-false}
 use Rattle.channel.specs.Below.{any_below}
 use Rattle.channel.proofs.Below.{any_below_to, any_below-and, any_below_turn}
 use Rattle.channel.specs.Sheet.{Terminal, Sheet}

@@ -1,16 +1,8 @@
 -- The table's cells are the model's reach: the places that a table filled by a sheet's rules and loads holds are those that its pins
 -- can reach.
 -- Assumes nothing.
-use Prim.Native.Nat.{ℕ, zero, suc, pred, ◌+◌, ◌≤◌, ◌<◌}
-use mathlib.Core.Path.{◌≡◌, refl, sym, ◌∙◌, ap, ap₂}
-use mathlib.Core.List.{List}
-use mathlib.Core.Bool.{Bool, true, false, ◌&&◌, ◌||◌, and-false, or-false}
-use mathlib.Core.Logic.{◌⊎◌, inl, inr}
-use native.Mathlib.Omega.{arith}
-use native.Mathlib.Nat.{add-zero}
-use lib.ListN.{length}
-use lib.Dec.{leb, ltb}
-use borrow.Author.Tests.{ltb-true, ltb-false, lt-ltb, le-ltb, eq-eqb, ne_eqb}
+use Rattle.std.proofs.Common.{ℕ, zero, suc, pred, ◌+◌, ◌≤◌, ◌<◌, ◌≡◌, refl, sym, ◌∙◌, ap, ap₂, List, Bool, true, false, ◌&&◌, ◌||◌, ◌⊎◌, inl, inr, arith, add-zero, length, leb, ltb, ltb-true, ltb-false, lt-ltb, le-ltb, eq-eqb, ne_eqb}
+use mathlib.Core.Bool.{and-false, or-false}
 use Rattle.channel.specs.Sheet.{Sheet}
 use Rattle.arrays.specs.Rules.{range_at, allowed_at}
 use Rattle.arrays.specs.Loads.{load_at}

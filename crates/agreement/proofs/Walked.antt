@@ -1,17 +1,8 @@
 -- Over a filled table, the walk writes the columns of the model's walk.
 -- Assumes nothing.
-use Prim.Native.Nat.{ℕ, zero, suc, pred, ◌+◌, ◌-◌, ◌≤◌, ◌<◌}
-use mathlib.Core.Path.{◌≡◌, refl, sym, ◌∙◌, ap}
-use mathlib.Core.List.{List, [], ◌∷◌, ◌++◌, append-nil}
-use mathlib.Core.Bool.{Bool, true, false, cond, ◌&&◌, and-false}
-use mathlib.Core.Logic.{inl}
-use native.Mathlib.Omega.{arith}
-use native.Mathlib.Nat.{zero-add, add-zero, le_refl}
-use native.Mathlib.Numerals.{sub-one}
-use lib.ListN.{length, drop, set}
-use lib.Seq.{set_comm, sets, length-sets, sets-eq, take_at, drop-append-add, drop-drop}
-use lib.Dec.{ltb}
-use borrow.Author.Tests.{lt-ltb}
+use Rattle.std.proofs.Common.{ℕ, zero, suc, pred, ◌+◌, ◌-◌, ◌≤◌, ◌<◌, ◌≡◌, refl, sym, ◌∙◌, ap, List, [], ◌∷◌, ◌++◌, append-nil, Bool, true, false, cond, ◌&&◌, inl, arith, zero-add, add-zero, le_refl, sub-one, length, drop, set, take_at, drop-drop, ltb, lt-ltb}
+use mathlib.Core.Bool.{and-false}
+use lib.Seq.{set_comm, sets, length-sets, sets-eq, drop-append-add}
 use Rattle.channel.specs.Sheet.{Terminal, Sheet}
 use Rattle.channel.specs.Word.{Letter, rank, has_top, has_bottom, columns_with, columns_of}
 use Rattle.channel.specs.Word.Letter.{empty, top, bottom, both}

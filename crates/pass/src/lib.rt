@@ -10,7 +10,7 @@ use bits::below;
 use bound::lower_bound;
 use entry::Grid;
 use table::{fill, meets};
-use walk::walk;
+use walk::Walk;
 
 // No density is above this.
 const MOST: u8 = 128;
@@ -95,7 +95,14 @@ fn place_above(
     }
     let bound = least(work, rules, loads, plan, failed);
     fill(work, rules, loads, plan.grid, bound, plan.p);
-    walk(work, rules, plan.grid, plan.p, plan.q, plan.l, columns);
+    Walk {
+        work,
+        rules,
+        grid: plan.grid,
+        p: plan.p,
+        q: plan.q,
+    }
+    .walk(plan.l, columns);
     Some(bound)
 }
 
@@ -115,7 +122,14 @@ pub fn place(
 {
     let bound = lower_bound(loads, plan.p, plan.q);
     if try_bound(work, rules, loads, plan, bound) {
-        walk(work, rules, plan.grid, plan.p, plan.q, plan.l, columns);
+        Walk {
+            work,
+            rules,
+            grid: plan.grid,
+            p: plan.p,
+            q: plan.q,
+        }
+        .walk(plan.l, columns);
         return Some(bound);
     }
     place_above(work, rules, loads, plan, bound, columns)
