@@ -19,7 +19,12 @@ pub fn list_density(sections: Sections, columns: &[u8]) -> u32
     let l = sections.shape.columns;
     let n = columns.len();
     let mut nets: [u16; 128] = [0; 128];
-    all_nets(sections.top, sections.bottom, sections.shape.top, &mut nets[..n]);
+    all_nets(
+        sections.top,
+        sections.bottom,
+        sections.shape.top,
+        &mut nets[..n],
+    );
     let mut counts: [u16; 256] = [0; 256];
     count_nets(&nets[..n], columns, &mut counts);
     u32::from(greatest(&counts, l))

@@ -14,8 +14,10 @@ use Rattle.refusals.specs.declared.Refusal.{Refusal}
 use Rattle.soundness.specs.Read.{sheet_of}
 use Rattle.sheet.specs.declared.Layout.{Layout}
 use Rattle.sheet.specs.declared.Shape.{Shape}
-use Rattle.format.specs.Parts.{bytes_of}
-use Rattle.sheet.specs.Parts.{opened_of, sheet_in}
+use Rattle.sheet.specs.Parts.{opened_of}
+use Rattle.sheet.specs.declared.Sections.{Sections}
+use Rattle.sheet.specs.Sections.{Held, sheet_held}
+use Rattle.std.specs.Borrow.{Bor}
 use Rattle.soundness.proofs.Laws.{read-sound}
 use Rattle.sheet.proofs.Laws.{opened_refused, Opens, opens, same_sheet, same_shape}
 use Rattle.searched.specs.declared.SearchRefusal.{SearchRefusal}
@@ -26,7 +28,10 @@ use Rattle.search.specs.Answer.{columns_if, columns_after, work_if, work_after, 
 use Rattle.solve.specs.Buffers.{with_columns, cleared}
 use Rattle.solve.specs.Solved.{AsksSolve, outcome_of, Solved}
 
-module _ (b columns work : List ℕ) where
+module _ (s : Bor (List ℕ)) (columns work : List ℕ) where
+  abbrev b : List ℕ
+  b = s.now
+
   -- the buffers go by the answer
   answered :
       (columns' work' : List ℕ) (r : Result ℕ SearchRefusal) → r ≡ searched_of b (length columns) (length work)
@@ -77,29 +82,28 @@ module _ (b columns work : List ℕ) where
         answered columns work _ (sym (answers _ _ ∙ rw (le-ltb _ _ enough, lt-ltb _ _ less))) refl refl
 
     -- the sections are those of the sheet
-    module _ (tops bottoms : List ℕ) (first : tops ≡ bytes_of b layout.top) (second : bottoms ≡ bytes_of b layout.bottom) where
-      same : sheet_in n.columns tops bottoms ≡ sheet_of b
-      same = same_sheet b layout laws tops bottoms first second
+    module _ (m : Sections) (held : Held s layout m) where
+      same : sheet_held m ≡ sheet_of b
+      same = same_sheet s layout laws m held
 
-      pub solve-asked :
-          n.pins ≤ length columns → n.cells ≤ length work → AsksSolve tops bottoms n (length columns) (length work)
+      pub solve-asked : n.pins ≤ length columns → n.cells ≤ length work → AsksSolve m (length columns) (length work)
       solve-asked g h =
           record {
             sound = rw same (read-sound b (sheet_of b) laws.reads);
-            numbers = same_shape b layout laws tops bottoms first second;
-            pins = g;
-            cells = h;
+            numbers = same_shape s layout laws m held;
+            pins = rw held.shape g;
+            cells = rw held.shape h;
           }
 
       -- the least density or 11
       module _ (g : n.pins ≤ length columns) (h : n.cells ≤ length work) (columns' work' : List ℕ) (r : Option ℕ)
-          (solved : Solved tops bottoms n columns columns' work work' r)
+          (solved : Solved m columns columns' work work' r)
         where
           written : columns' ≡ with_columns (best (sheet_of b)) columns
           written = solved.written ∙ ap (λ (s : Sheet). with_columns (best s) columns) same
 
           zeros : work' ≡ cleared (cells_needed (sheet_of b)) work
-          zeros = solved.cells ∙ ap (λ (k : ℕ). cleared k work) cells
+          zeros = solved.cells ∙ ap (λ (k : ℕ). cleared k work) (ap (λ (k : Shape). k.cells) held.shape ∙ cells)
 
           enough : searched_of b (length columns) (length work) ≡ answer_as (best (sheet_of b))
           unfolding answer_in

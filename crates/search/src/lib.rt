@@ -36,10 +36,7 @@ fn search_layout(s: &[u8], layout: Layout, columns: &mut [u8], work: &mut [u16])
     if work.len() < shape.cells {
         return Err(SearchRefusal::Cells);
     }
-    let top = format::part_in(s, layout.top);
-    let bottom = format::part_in(s, layout.bottom);
-    let least = solve::solve(top, bottom, shape, columns, work);
-    match least {
+    match solve::solve(layout.sections(s), columns, work) {
         Some(d) => Ok(d),
         None => Err(SearchRefusal::NoAssignment),
     }

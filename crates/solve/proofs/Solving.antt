@@ -10,6 +10,8 @@ use Rattle.channel.specs.Best.Found.{none, found}
 use Rattle.channel.specs.Word.{columns_of}
 use Rattle.channel.specs.Word.Letter.{top, bottom, both}
 use Rattle.sheet.specs.declared.Shape.{Shape}
+use Rattle.sheet.specs.declared.Sections.{Sections}
+use Rattle.sheet.specs.Sections.{sheet_held}
 use Rattle.format.specs.Parts.{terminals_in}
 use Rattle.sheet.specs.Parts.{sheet_in}
 use Rattle.load.specs.Cuts.{Cell, LoadsRead}
@@ -95,34 +97,34 @@ crowded s sound h = search-none s sound (by-test (feasible s most_density) refl)
     by-test false e = refl
 
 -- what is asked of the two sections
-module _ (tops bottoms : List ℕ) (n : Shape) (c w : ℕ) (asked : AsksSolve tops bottoms n c w) where
-  top_count : n.top ≡ length (terminals_in tops)
+module _ (m : Sections) (c w : ℕ) (asked : AsksSolve m c w) where
+  top_count : m.shape.top ≡ length (terminals_in m.top.now)
   top_count = ap (λ (k : Shape). k.top) asked.numbers
 
-  bottom-count : n.bottom ≡ length (terminals_in bottoms)
+  bottom-count : m.shape.bottom ≡ length (terminals_in m.bottom.now)
   bottom-count = ap (λ (k : Shape). k.bottom) asked.numbers
 
-  pin_count_lem : n.pins ≡ n.top + n.bottom
+  pin_count_lem : m.shape.pins ≡ m.shape.top + m.shape.bottom
   pin_count_lem = omega (arith, ap (λ (k : Shape). k.pins) asked.numbers, top_count, bottom-count)
 
-  pub cell-count : n.cells ≡ (n.top + 1) * (n.bottom + 1) * ((n.columns + 1) * (n.columns + 1))
+  pub cell-count : m.shape.cells ≡ (m.shape.top + 1) * (m.shape.bottom + 1) * ((m.shape.columns + 1) * (m.shape.columns + 1))
   cell-count = ap (λ (k : Shape). k.cells) asked.numbers ∙ rw (← top_count, ← bottom-count)
 
   -- more pins on a side than columns
   pub crowded_worked :
-      (columns work : List ℕ) → (n.columns < n.top) ⊎ (n.columns < n.bottom)
-      → Worked tops bottoms n columns columns work work None
+      (columns work : List ℕ) → (m.shape.columns < m.shape.top) ⊎ (m.shape.columns < m.shape.bottom)
+      → Worked m columns columns work work None
   crowded_worked columns work h =
-      let e : best (sheet_in n.columns tops bottoms) ≡ none
-      = crowded (sheet_in n.columns tops bottoms) asked.sound
+      let e : best (sheet_held m) ≡ none
+      = crowded (sheet_held m) asked.sound
       (⊎_elim (λ x. inl (omega (arith, top_count))) (λ x. inr (omega (arith, bottom-count))) h) in
       record { outcome = rw e; written = rw e; kept = refl; behind = refl }
 
-  module _ (hp : n.top ≤ n.columns) (hq : n.bottom ≤ n.columns) (rules loads : List ℕ) where
+  module _ (hp : m.shape.top ≤ m.shape.columns) (hq : m.shape.bottom ≤ m.shape.columns) (rules loads : List ℕ) where
     ready :
-        SideRules 0 (terminals_in tops) rules → SideRules 1 (terminals_in bottoms) rules
-        → SheetLoads (sheet_in n.columns tops bottoms) loads
-        → Ready (sheet_in n.columns tops bottoms) rules loads (plan_of n.columns n.top n.bottom)
+        SideRules 0 (terminals_in m.top.now) rules → SideRules 1 (terminals_in m.bottom.now) rules
+        → SheetLoads (sheet_held m) loads
+        → Ready (sheet_held m) rules loads (plan_of m.shape.columns m.shape.top m.shape.bottom)
     ready rt rb ls =
         record {
           sound = asked.sound;
@@ -133,7 +135,7 @@ module _ (tops bottoms : List ℕ) (n : Shape) (c w : ℕ) (asked : AsksSolve to
           bottoms = hq;
           rows = refl;
           across = refl;
-          sizes = plan_sizes n.columns n.top n.bottom asked.sound.columns.0 asked.sound.columns.1 hp hq;
+          sizes = plan_sizes m.shape.columns m.shape.top m.shape.bottom asked.sound.columns.0 asked.sound.columns.1 hp hq;
           top = rt;
           bottom = rb;
           cuts = ls;
@@ -160,14 +162,13 @@ came_best s rules loads n ready old new columns columns' room None placed =
     let e : best s ≡ none = search-none s ready.sound (sym (feasible-in s rules loads n ready most_density) ∙ never) in
     (rw e, rw e same)
 
-module _ (tops bottoms : List ℕ) (n : Shape) (columns work : List ℕ)
-    (asked : AsksSolve tops bottoms n (length columns) (length work)) (hp : n.top ≤ n.columns) (hq : n.bottom ≤ n.columns)
-    (rules loads : List ℕ) (plan : Plan) (planned : plan ≡ plan_of n.columns n.top n.bottom)
-    (rt : SideRules 0 (terminals_in tops) rules) (rb : SideRules 1 (terminals_in bottoms) rules)
-    (ls : SheetLoads (sheet_in n.columns tops bottoms) loads)
+module _ (m : Sections) (columns work : List ℕ) (asked : AsksSolve m (length columns) (length work))
+    (hp : m.shape.top ≤ m.shape.columns) (hq : m.shape.bottom ≤ m.shape.columns) (rules loads : List ℕ) (plan : Plan)
+    (planned : plan ≡ plan_of m.shape.columns m.shape.top m.shape.bottom) (rt : SideRules 0 (terminals_in m.top.now) rules)
+    (rb : SideRules 1 (terminals_in m.bottom.now) rules) (ls : SheetLoads (sheet_held m) loads)
   where
-    plan-ready : Ready (sheet_in n.columns tops bottoms) rules loads plan
-    plan-ready = rw planned (ready tops bottoms n (length columns) (length work) asked hp hq rules loads rt rb ls)
+    plan-ready : Ready (sheet_held m) rules loads plan
+    plan-ready = rw planned (ready m (length columns) (length work) asked hp hq rules loads rt rb ls)
 
     -- what the passes ask
     pub place-asked :
@@ -176,27 +177,27 @@ module _ (tops bottoms : List ℕ) (n : Shape) (columns work : List ℕ)
       record {
         lies =
             rw planned
-            (plan_lies work n.columns n.top n.bottom asked.sound.columns.0 asked.sound.columns.1 hp hq
-            (rw (← cell-count tops bottoms n (length columns) (length work) asked) asked.cells));
+            (plan_lies work m.shape.columns m.shape.top m.shape.bottom asked.sound.columns.0 asked.sound.columns.1 hp hq
+            (rw (← cell-count m (length columns) (length work) asked) asked.cells));
         bottoms = rw planned hq;
         columns = rw planned asked.sound.columns.1;
       },
-      rw planned (omega (arith, asked.pins, pin_count_lem tops bottoms n (length columns) (length work) asked)),
+      rw planned (omega (arith, asked.pins, pin_count_lem m (length columns) (length work) asked)),
       feasible_rising _ rules loads plan plan-ready,
     )
 
     -- and what they come to
     pub placed-worked :
         (columns' work' : List ℕ) (r : Option ℕ) → Placed rules loads plan work work' columns columns' r
-        → Worked tops bottoms n columns columns' work work' r
+        → Worked m columns columns' work work' r
     placed-worked columns' work' r placed =
         let room : plan.p + plan.q ≤ length columns
-        = rw planned (omega (arith, asked.pins, pin_count_lem tops bottoms n (length columns) (length work) asked)) in
-        let (o, w) = came_best (sheet_in n.columns tops bottoms) rules loads plan plan-ready work work' columns columns' room r placed in
-        let end : table_end plan ≡ n.cells
+        = rw planned (omega (arith, asked.pins, pin_count_lem m (length columns) (length work) asked)) in
+        let (o, w) = came_best (sheet_held m) rules loads plan plan-ready work work' columns columns' room r placed in
+        let end : table_end plan ≡ m.shape.cells
         = rw planned
-        (sym (mul_assoc (n.top + 1) (n.bottom + 1) ((n.columns + 1) * (n.columns + 1)))
-        ∙ sym (cell-count tops bottoms n (length columns) (length work) asked)) in
+        (sym (mul_assoc (m.shape.top + 1) (m.shape.bottom + 1) ((m.shape.columns + 1) * (m.shape.columns + 1)))
+        ∙ sym (cell-count m (length columns) (length work) asked)) in
         record {
           outcome = o;
           written = w;
@@ -210,14 +211,14 @@ cleared-length n old new h e = ap length e ∙ simp (length-append, length-repli
 
 -- the cells that were worked in, cleared
 pub worked_solved :
-    (tops bottoms : List ℕ) (n : Shape) (columns columns' work mid work' : List ℕ) (r : Option ℕ)
-    → Worked tops bottoms n columns columns' work mid r → work' ≡ cleared n.cells mid
-    → Solved tops bottoms n columns columns' work work' r
-worked_solved tops bottoms n columns columns' work mid work' r worked clears =
+    (m : Sections) (columns columns' work mid work' : List ℕ) (r : Option ℕ)
+    → Worked m columns columns' work mid r → work' ≡ cleared m.shape.cells mid
+    → Solved m columns columns' work work' r
+worked_solved m columns columns' work mid work' r worked clears =
     record {
       outcome = worked.outcome;
       written = worked.written;
-      cells = clears ∙ ap (λ (rest : List ℕ). replicate n.cells 0 ++ rest) worked.behind;
+      cells = clears ∙ ap (λ (rest : List ℕ). replicate m.shape.cells 0 ++ rest) worked.behind;
     }
 
 -- the sizes of the table are small

@@ -1,12 +1,13 @@
--- What the inner search comes to on the two sections of a sound sheet.
+-- What the inner search comes to on the sections of a sound sheet.
 -- Assumes nothing.
 use Rattle.std.specs.Prelude.{ℕ, ◌+◌, ◌-◌, ◌*◌, ◌≤◌, ◌≡◌, List, Option, Some, None, cond, length, drop, eqb}
 use Rattle.channel.specs.Sheet.{Sound}
 use Rattle.channel.specs.Best.{Found, best}
 use Rattle.channel.specs.Best.Found.{none, found}
-use Rattle.sheet.specs.declared.Shape.{Shape}
 use Rattle.format.specs.Parts.{terminals_in}
-use Rattle.sheet.specs.Parts.{sheet_in, shape}
+use Rattle.sheet.specs.Parts.{shape}
+use Rattle.sheet.specs.declared.Sections.{Sections}
+use Rattle.sheet.specs.Sections.{sheet_held}
 use Rattle.pass.specs.declared.Plan.{Plan}
 use Rattle.solve.specs.Buffers.{with_columns, cleared}
 
@@ -27,11 +28,11 @@ plan_of l p q =
     }
 
 -- the shape is that of the sections, the sheet is sound, and both buffers are long enough
-pub record AsksSolve (top bottom : List ℕ) (n : Shape) (columns work : ℕ) : Type 0 where
-  pub sound : Sound (sheet_in n.columns top bottom)
-  pub numbers : n ≡ shape n.columns (length (terminals_in top)) (length (terminals_in bottom))
-  pub pins : n.pins ≤ columns
-  pub cells : n.cells ≤ work
+pub record AsksSolve (m : Sections) (columns work : ℕ) : Type 0 where
+  pub sound : Sound (sheet_held m)
+  pub numbers : m.shape ≡ shape m.shape.columns (length (terminals_in m.top.now)) (length (terminals_in m.bottom.now))
+  pub pins : m.shape.pins ≤ columns
+  pub cells : m.shape.cells ≤ work
 
 -- the least density, if there is one
 abbrev pub outcome_of : Found → Option ℕ
@@ -39,14 +40,14 @@ outcome_of none = None
 outcome_of (found d cs) = Some d
 
 -- the best assignment is written, if there is one, and only the cells needed are worked in: what stands behind them is as it was
-pub record Worked (top bottom : List ℕ) (n : Shape) (columns columns' work work' : List ℕ) (r : Option ℕ) : Type 0 where
-  pub outcome : r ≡ outcome_of (best (sheet_in n.columns top bottom))
-  pub written : columns' ≡ with_columns (best (sheet_in n.columns top bottom)) columns
+pub record Worked (m : Sections) (columns columns' work work' : List ℕ) (r : Option ℕ) : Type 0 where
+  pub outcome : r ≡ outcome_of (best (sheet_held m))
+  pub written : columns' ≡ with_columns (best (sheet_held m)) columns
   pub kept : length work' ≡ length work
-  pub behind : drop n.cells work' ≡ drop n.cells work
+  pub behind : drop m.shape.cells work' ≡ drop m.shape.cells work
 
 -- the same, with the cells needed left 0
-pub record Solved (top bottom : List ℕ) (n : Shape) (columns columns' work work' : List ℕ) (r : Option ℕ) : Type 0 where
-  pub outcome : r ≡ outcome_of (best (sheet_in n.columns top bottom))
-  pub written : columns' ≡ with_columns (best (sheet_in n.columns top bottom)) columns
-  pub cells : work' ≡ cleared n.cells work
+pub record Solved (m : Sections) (columns columns' work work' : List ℕ) (r : Option ℕ) : Type 0 where
+  pub outcome : r ≡ outcome_of (best (sheet_held m))
+  pub written : columns' ≡ with_columns (best (sheet_held m)) columns
+  pub cells : work' ≡ cleared m.shape.cells work

@@ -1,4 +1,4 @@
-// The search over the two sections of a sound sheet.
+// The search over the sections of a sound sheet.
 #![tactic(auto)]
 
 ghost use Rattle.std.specs.Prelude.{◌+◌, ◌-◌, ◌≤◌, ◌≡◌, cond, length, eqb};
@@ -9,7 +9,7 @@ use channel::Side;
 use entry::Grid;
 use pass::{Plan, place};
 use rules::read_rules;
-use sheet::Shape;
+use sheet::Sections;
 
 // The rows of a plane: the columns in which a top pin can stand.
 fn rows_of(l: usize, p: usize) -> usize
@@ -35,14 +35,15 @@ fn make_plan(l: usize, p: usize, q: usize) -> Plan
 }
 
 // Writes the columns of the best assignment, if there is one. What it leaves in the cells that it works in is for `solve` to clear.
-fn find(top: &[u8], bottom: &[u8], shape: Shape, columns: &mut [u8], work: &mut [u16]) -> Option<u8>
-    requires { AsksSolve top.now bottom.now shape (length columns.old) (length work.old) }
-    ensures { Worked top.now bottom.now shape
-        columns.old columns.new work.old work.new result }
+fn find(sections: Sections, columns: &mut [u8], work: &mut [u16]) -> Option<u8>
+    requires { AsksSolve sections (length columns.old) (length work.old) }
+    ensures { Worked sections.entry columns.old columns.new work.old work.new result }
 {
-    let l = shape.columns;
-    let p = shape.top;
-    let q = shape.bottom;
+    let top = sections.top;
+    let bottom = sections.bottom;
+    let l = sections.shape.columns;
+    let p = sections.shape.top;
+    let q = sections.shape.bottom;
     if l < p || l < q {
         return None;
     }
@@ -57,18 +58,11 @@ fn find(top: &[u8], bottom: &[u8], shape: Shape, columns: &mut [u8], work: &mut 
 }
 
 // Writes the columns of the best assignment, if there is one, and leaves the cells that this takes 0.
-pub fn solve(
-    top: &[u8],
-    bottom: &[u8],
-    shape: Shape,
-    columns: &mut [u8],
-    work: &mut [u16],
-) -> Option<u8>
-    requires { AsksSolve top.now bottom.now shape (length columns.old) (length work.old) }
-    ensures { Solved top.now bottom.now shape
-        columns.old columns.new work.old work.new result }
+pub fn solve(sections: Sections, columns: &mut [u8], work: &mut [u16]) -> Option<u8>
+    requires { AsksSolve sections (length columns.old) (length work.old) }
+    ensures { Solved sections.entry columns.old columns.new work.old work.new result }
 {
-    let outcome = find(top, bottom, shape, columns, work);
-    work[..shape.cells].fill(0);
+    let outcome = find(sections, columns, work);
+    work[..sections.shape.cells].fill(0);
     outcome
 }

@@ -1,6 +1,6 @@
 -- Tracks, from what the list's check and the routing of an assignment answer.
 -- Assumes nothing.
-use Rattle.std.proofs.Common.{Result, Ok, Err, ◌≡◌, ℕ, ◌≤◌, List, sym, ap, ◌∙◌, subst}
+use Rattle.std.proofs.Common.{Result, Ok, Err, ◌≡◌, ℕ, List, sym, ap, subst}
 use Rattle.std.specs.Borrow.{Bor}
 use Rattle.channel.specs.Sheet.{Sheet}
 use Rattle.refusals.specs.declared.ListRefusal.{ListRefusal}

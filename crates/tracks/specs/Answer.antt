@@ -1,6 +1,6 @@
 -- What the tracks of a column list are, or why there are none (document 02, T-04).
 -- Assumes nothing.
-use Rattle.std.specs.Prelude.{ℕ, ◌+◌, ◌≤◌, ◌≡◌, List, ◌++◌, cond, length, take, drop, ltb, Result, Ok, Err}
+use Rattle.std.specs.Prelude.{ℕ, ◌≤◌, ◌≡◌, List, ◌++◌, cond, length, take, drop, ltb, Result, Ok, Err}
 use Rattle.channel.specs.Sheet.{Sheet}
 use Rattle.channel.specs.Density.{Pin, pins}
 use Rattle.channel.specs.Cut.{nets}

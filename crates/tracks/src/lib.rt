@@ -35,7 +35,12 @@ fn route_columns(sections: Sections, columns: &[u8], room: usize) -> Result<Rout
 {
     let n = columns.len();
     let mut nets: [u16; 128] = [0; 128];
-    all_nets(sections.top, sections.bottom, sections.shape.top, &mut nets[..n]);
+    all_nets(
+        sections.top,
+        sections.bottom,
+        sections.shape.top,
+        &mut nets[..n],
+    );
     route_nets(&nets[..n], columns, sections.shape.columns as u8, room)
 }
 

@@ -6,4 +6,4 @@ use Rattle.search.proofs.search.Goals as goal
 pub returns-in_err-layout : goal.returns-in_err-layout
 returns-in_err-layout c =
     let a = c.args in
-    let e = answers_sheet a.s.now a.columns.now a.work.now _ (sym c.in_err-layout.ensures) in search rules
+    let e = answers_sheet a.s a.columns.now a.work.now _ (sym c.in_err-layout.ensures) in search rules

@@ -6,29 +6,26 @@ use Rattle.search.proofs.search_layout.Goals as goal
 pub returns-then-columns-shape : goal.returns-then-columns-shape
 returns-then-columns-shape c =
     let a = c.args in
-    answers-columns a.s.now a.columns.now a.work.now a.layout c.requires c.if-columns-shape.true
+    answers-columns a.s a.columns.now a.work.now a.layout c.requires c.if-columns-shape.true
 
 pub returns-then-work-shape : goal.returns-then-work-shape
 returns-then-work-shape c =
     let a = c.args in
-    answers-cells a.s.now a.columns.now a.work.now a.layout c.requires c.if-columns-shape.false c.if-work-shape.true
+    answers-cells a.s a.columns.now a.work.now a.layout c.requires c.if-columns-shape.false c.if-work-shape.true
 
-pub solve-least-requires : goal.solve-least-requires
-solve-least-requires c =
+pub solve-requires : goal.solve-requires
+solve-requires c =
     let a = c.args in
-    solve-asked a.s.now a.columns.now a.work.now a.layout c.requires _ _ c.part_in-top.ensures.bytes
-    c.part_in-bottom.ensures.bytes c.if-columns-shape.false c.if-work-shape.false
+    solve-asked a.s a.columns.now a.work.now a.layout c.requires _ c.sections.ensures c.if-columns-shape.false c.if-work-shape.false
 
 pub returns-in-Some : goal.returns-in-Some
 returns-in-Some c =
     let a = c.args in
-    answers-found a.s.now a.columns.now a.work.now a.layout c.requires _ _ c.part_in-top.ensures.bytes
-    c.part_in-bottom.ensures.bytes c.if-columns-shape.false c.if-work-shape.false _ _ _ c.solve-least.ensures _
+    answers-found a.s a.columns.now a.work.now a.layout c.requires _ c.sections.ensures c.if-columns-shape.false c.if-work-shape.false _ _ _ c.solve.ensures _
     c.in-Some.is
 
 pub returns-in-None : goal.returns-in-None
 returns-in-None c =
     let a = c.args in
-    answers-none a.s.now a.columns.now a.work.now a.layout c.requires _ _ c.part_in-top.ensures.bytes
-    c.part_in-bottom.ensures.bytes c.if-columns-shape.false c.if-work-shape.false _ _ _ c.solve-least.ensures
+    answers-none a.s a.columns.now a.work.now a.layout c.requires _ c.sections.ensures c.if-columns-shape.false c.if-work-shape.false _ _ _ c.solve.ensures
     c.in-None.is

@@ -1,7 +1,6 @@
 -- `tracks::route_columns` meets its contract: the nets of the pins are those of the sheet's terminals.
 -- Assumes nothing.
 use Rattle.std.proofs.Common.{ℕ, List, ◌++◌, length, drop, replicate, sym, ◌∙◌, subst}
-use Rattle.channel.specs.Sheet.{Terminal}
 use Rattle.channel.specs.Density.{Pin}
 use Rattle.channel.specs.Cut.{nets}
 use Rattle.format.specs.Parts.{terminals_in}
