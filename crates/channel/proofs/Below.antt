@@ -1,14 +1,9 @@
 -- Laws of a test of the numbers below a bound: from a number that meets it and back, one number more, a part that does not depend on
 -- the number, two numbers in either order, and a start before which no number meets it.
 -- Assumes nothing.
-use Prim.Native.Nat.{ℕ, zero, suc, ◌+◌, ◌<◌}
-use mathlib.Core.Path.{◌≡◌, refl, sym, ◌∙◌, ap, ap₂}
-use mathlib.Core.Bool.{Bool, true, false, ◌&&◌, ◌||◌, true≢false, and-false, or-true}
-use native.Mathlib.Omega.{arith}
-use native.Mathlib.Nat.{zero-add, suc-add}
-use native.Mathlib.Numerals.{add-one}
-use lib.Dec.{eqb}
-use borrow.Author.Tests.{eqb-true, eqb-false}
+use Rattle.std.proofs.Common.{◌≡◌, ℕ, zero, suc, ◌+◌, ◌<◌, Bool, true, false, ◌&&◌, ◌||◌, eqb, sym, refl, ap, ◌∙◌, ap₂, true≢false, suc-add, zero-add, add-one, arith, eqb-true}
+use mathlib.Core.Bool.{and-false, or-true}
+use borrow.Author.Tests.{eqb-false}
 use Rattle.channel.specs.Below.{any_below}
 
 -- tests that agree below n

@@ -1,8 +1,7 @@
 -- Laws of what holds of each in a list, of each two, and of some.
 -- Assumes nothing.
-use mathlib.Core.Path.{◌≡◌, refl, sym}
-use mathlib.Core.List.{List, [], ◌∷◌, ◌++◌, map}
-use mathlib.Core.Bool.{Bool, true, false, ◌&&◌, ◌||◌, or-true, true≢false}
+use Rattle.std.proofs.Common.{◌≡◌, Bool, true, false, ◌&&◌, ◌||◌, List, [], ◌∷◌, ◌++◌, map, sym, refl, true≢false}
+use mathlib.Core.Bool.{or-true}
 use Rattle.channel.specs.Density.{any}
 use Rattle.left_edge.specs.Lists.{Each, Pairwise}
 

@@ -1,13 +1,9 @@
 -- Why the tracks are as many as the most nets in one column. Not fewer: the nets of a column are on different tracks. Not more: on each
 -- track below a net's own, another crosses its left end. For the same reason no track up to the greatest is left out.
 -- Assumes nothing.
-use Prim.Native.Nat.{ℕ, zero, suc, ◌+◌, ◌≤◌, ◌<◌, max}
-use native.Mathlib.Omega.{arith}
-use mathlib.Core.Path.{◌≡◌, refl, sym, ap, ◌∙◌}
-use mathlib.Core.List.{List, [], ◌∷◌, map}
-use mathlib.Core.Bool.{Bool, true, false, cond, ◌&&◌, ◌||◌, or-true, true≢false}
-use lib.Dec.{leb, ltb, eqb}
-use borrow.Author.Tests.{leb-true, leb-false, le-leb, lt-leb, ltb-true, ltb-false, eqb-true, eqb-false}
+use Rattle.std.proofs.Common.{◌≡◌, ℕ, zero, suc, ◌+◌, ◌<◌, ◌≤◌, max, Bool, true, false, cond, ◌&&◌, ◌||◌, eqb, ltb, leb, List, [], ◌∷◌, map, sym, refl, ap, ◌∙◌, true≢false, arith, ltb-false, ltb-true, eqb-true, le-leb, leb-false, leb-true}
+use mathlib.Core.Bool.{or-true}
+use borrow.Author.Tests.{lt-leb, eqb-false}
 use Rattle.channel.specs.Density.{any, weight_of, maximum_to}
 use Rattle.left_edge.specs.declared.Span.{Span}
 use Rattle.left_edge.specs.Lists.{Each, Pairwise, EachAfter}

@@ -1,13 +1,7 @@
 -- Words that place the pins still to be placed: what they say of their first letter and of the rest, and that `reach` knows of them.
 -- Assumes nothing.
-use Prim.Native.Nat.{ℕ, suc, pred, max, ◌≤◌, ◌<◌}
-use native.Mathlib.Omega.{arith}
-use mathlib.Core.Path.{◌≡◌, refl, ap, ◌∙◌}
-use mathlib.Core.List.{List, [], ◌∷◌}
-use mathlib.Core.Bool.{Bool, true, false, not, cond, ◌||◌, false≢true, or-true, and-eq-true_iff}
-use lib.ListN.{length}
-use lib.Dec.{eqb}
-use borrow.Author.Tests.{ne_eqb}
+use Rattle.std.proofs.Common.{◌≡◌, ℕ, suc, pred, ◌<◌, ◌≤◌, max, Bool, true, false, cond, not, ◌||◌, eqb, List, [], ◌∷◌, length, refl, ap, ◌∙◌, arith, ne_eqb}
+use mathlib.Core.Bool.{false≢true, or-true, and-eq-true_iff}
 use Rattle.channel.specs.Sheet.{Terminal, Sheet}
 use Rattle.channel.specs.Assignment.{allows}
 use Rattle.channel.specs.Word.{Letter, has_top, has_bottom}

@@ -1,13 +1,7 @@
 -- The word that the walk writes places all pins within the bound, and no word that does so comes before it.
 -- Assumes nothing.
-use Prim.Native.Nat.{ℕ, zero, suc, pred, ◌≤◌}
-use native.Mathlib.Omega.{arith}
-use mathlib.Core.Path.{◌≡◌, refl, sym, ap, ◌∙◌}
-use mathlib.Core.List.{List, [], ◌∷◌}
-use mathlib.Core.Bool.{Bool, true, false, ◌&&◌, ◌||◌, false≢true, and-eq-true_iff}
-use lib.ListN.{length}
-use lib.Dec.{ltb, eqb}
-use borrow.Author.Tests.{ltb-false, eq-eqb}
+use Rattle.std.proofs.Common.{◌≡◌, ℕ, zero, suc, pred, ◌≤◌, Bool, true, false, ◌&&◌, ◌||◌, eqb, ltb, List, [], ◌∷◌, length, sym, refl, ap, ◌∙◌, arith, ltb-false, eq-eqb}
+use mathlib.Core.Bool.{false≢true, and-eq-true_iff}
 use Rattle.channel.proofs.Below.{any_below-from, any_below_to}
 use Rattle.channel.specs.Sheet.{Terminal, Sheet}
 use Rattle.channel.specs.Word.{Letter, rank, has_top, has_bottom, no_later}
