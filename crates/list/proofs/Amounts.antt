@@ -1,9 +1,6 @@
 -- Laws of amounts: which are 0, and which is the first that is not.
 -- Assumes nothing.
-use Prim.Native.Nat.{ℕ, zero, suc}
-use mathlib.Core.Path.{◌≡◌, refl, sym, ◌∙◌, ap}
-use mathlib.Core.Bool.{Bool, true, false, cond, ◌&&◌, true≢false}
-use lib.IntN.{ℤ, pos, negsuc}
+use Rattle.std.proofs.Common.{◌≡◌, ℕ, zero, suc, Bool, true, false, cond, ◌&&◌, ℤ, pos, negsuc, sym, refl, ap, ◌∙◌, true≢false}
 use Rattle.channel.specs.Assignment.{in_range}
 use Rattle.channel.specs.Distance.{amount}
 use Rattle.channel.proofs.Distances.{amount_says}

@@ -1,12 +1,6 @@
 -- Laws of 13 and 14 as a scan over the places of a side finds them.
 -- Assumes nothing.
-use Prim.Native.Nat.{ℕ, ◌+◌, ◌-◌, ◌≤◌, ◌<◌}
-use mathlib.Core.Path.{◌≡◌, refl}
-use mathlib.Core.List.{List, [], ◌∷◌}
-use mathlib.Core.Bool.{true, ◌&&◌}
-use native.Mathlib.Omega.{arith}
-use lib.ListN.{length, get_or, drop, drop_of_length-le}
-use lib.IntN.{pos}
+use Rattle.std.proofs.Common.{◌≡◌, ℕ, ◌+◌, ◌-◌, ◌<◌, ◌≤◌, true, ◌&&◌, List, [], ◌∷◌, length, get_or, drop, pos, refl, arith, drop_of_length-le}
 use Rattle.channel.specs.Sheet.{Terminal, no_terminal}
 use Rattle.channel.specs.Assignment.{allows}
 use Rattle.channel.specs.Distance.{amount}

@@ -1,7 +1,7 @@
 -- The list of the nets' places, filled from the front: a net's are put in where it stands last.
 -- Assumes nothing.
-use Rattle.std.proofs.Common.{ℕ, suc, ◌+◌, ◌-◌, ◌≤◌, ◌<◌, ◌≡◌, refl, sym, ap, ◌∙◌, List, [], ◌∷◌, ◌++◌, true, false, eqb, length, get_or, take, drop, set, arith, append_assoc, append-nil, add-one, drop-cons, length-append, length-drop, le_refl, take-append-drop, drop_of_length-le, length-take-le, take_all, drop-drop}
-use Rattle.std.proofs.lemmas.List.{take_more_set, drop-set-lt}
+use Rattle.std.proofs.Common.{◌≡◌, ℕ, suc, ◌+◌, ◌-◌, ◌<◌, ◌≤◌, true, false, eqb, List, [], ◌∷◌, ◌++◌, length, get_or, take, drop, set, sym, refl, ap, ◌∙◌, append_assoc, append-nil, le_refl, add-one, arith, length-append, length-drop, take-append-drop, drop_of_length-le, length-take-le, take_all, drop-cons, drop-drop, drop-set-lt}
+use Rattle.std.proofs.lemmas.List.{take_more_set}
 use Rattle.channel.specs.Density.{any, distinct}
 use Rattle.channel.proofs.Spans.{length-distinct}
 use Rattle.places.specs.declared.NetPlaces.{NetPlaces}

@@ -1,8 +1,6 @@
 -- `list::check` meets its contract: what the sheet layer refuses, then 12, then what the columns are answered.
 -- Assumes nothing.
-use mathlib.Core.Path.{sym, ◌∙◌}
-use Rattle.std.proofs.Common.{rules}
-use native.Mathlib.Omega.{arith}
+use Rattle.std.proofs.Common.{sym, arith, rules}
 use Rattle.list.proofs.Columns.{sheet-refused, count-refused, counted, columns-checked}
 use Rattle.list.proofs.check.Goals as goal
 
