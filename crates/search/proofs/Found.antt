@@ -7,7 +7,6 @@ use Rattle.channel.specs.Best.{Found, best, IsBest, Answers}
 use Rattle.channel.specs.Best.Found.{none, found}
 use Rattle.channel.proofs.Best.{best_answers}
 use Rattle.channel.proofs.Assignments.{fits_lengths}
-use Rattle.refusals.proofs.Refused.{number_some}
 use Rattle.soundness.specs.Check.{check_of}
 use Rattle.soundness.specs.Read.{read, sheet_of}
 use Rattle.soundness.specs.Read.Read.{sound}
@@ -106,11 +105,3 @@ module _ (b : List ℕ) (k m d : ℕ) where
   pub finds : searched_of b k m ≡ Ok d → Finds
   unfolding searched_of
   finds = by_check (check_of b) refl
-
--- an answer with the number 0 is a density
-pub zero_found : (r : Result ℕ SearchRefusal) → number_of r ≡ 0 → r ≡ Ok (density_of r)
-zero_found (Ok d) e = refl
-zero_found (Err (searched.Sheet why)) e = absurd (number_some why e)
-zero_found (Err searched.Columns) e = absurd (omega arith)
-zero_found (Err searched.Cells) e = absurd (omega arith)
-zero_found (Err searched.NoAssignment) e = absurd (omega arith)
