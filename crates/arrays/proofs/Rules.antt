@@ -19,9 +19,6 @@ every_rule k h = by-test (ltb (k % 128) pins) refl
         let high = ltb-false (k % 128) pins e in
         (k / 128, k % 128 - pins + 1, omega arith, omega arith, omega arith, inr (omega arith))
 
-pub length-put_rule : (rules : List ℕ) (side i w a : ℕ) → length (put_rule rules side i w a) ≡ length rules
-length-put_rule rules side i w a = simp length-set
-
 module _ (rules : List ℕ) (side i w a : ℕ) (low : 1 ≤ i) (high : i ≤ pins) where
   -- the range is in
   half : List ℕ

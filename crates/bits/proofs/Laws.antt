@@ -1,8 +1,8 @@
 -- How the bits of a word go through or, and, shifts and remainders.
 -- Assumes nothing.
-use Rattle.std.proofs.Common.{◌≡◌, ℕ, zero, suc, ◌+◌, ◌-◌, ◌*◌, ◌/◌, ◌%◌, ◌^◌, ◌<◌, ◌≤◌, Bool, true, false, ◌&&◌, ◌||◌, eqb, ltb, leb, ◌⊎◌, sym, refl, ap, ◌∙◌, inl, inr, true≢false, lt_of_lt_of_le, mul_assoc, div-one, arith, pow_pos, pow_mono, pow-add, shr-shr, ltb-false, ltb-true, eq-eqb, ne_eqb, eqb-true, leb-false, leb-true}
+use Rattle.std.proofs.Common.{◌≡◌, ℕ, zero, suc, ◌+◌, ◌-◌, ◌*◌, ◌/◌, ◌%◌, ◌^◌, ◌<◌, ◌≤◌, Bool, true, false, ◌&&◌, ◌||◌, eqb, ltb, leb, ◌⊎◌, bit_and, bit_or, sym, refl, ap, ◌∙◌, inl, inr, true≢false, lt_of_lt_of_le, mul_assoc, div-one, arith, pow_pos, pow_mono, pow-add, shr-shr, ltb-false, ltb-true, eq-eqb, ne_eqb, eqb-true, leb-false, leb-true}
 use native.Mathlib.Nat.{div-eq_of_lt}
-use lib.Bits.{bit_and, bit_or, and_mod, or_mod, and_shr, or_shr}
+use lib.Bits.{and_mod, or_mod, and_shr, or_shr}
 use lib.Count.{count_trailing_zeros, under}
 use lib.Pow.{shl-shr, field, mod-mod-pow, ones_split, ones_lt, high}
 use borrow.Author.Tests.{eqb-false}

@@ -183,16 +183,6 @@ pub record Row (loads : List ℕ) (i j : ℕ) (old new : List ℕ) (before diago
   pub corner : 0 < j → diagonal ≡ get_or old (j - 1) 0
 
 module _ (loads : List ℕ) (i : ℕ) (old : List ℕ) where
-  pub row_none : Row loads i 0 old old 0 0
-  row_none =
-      record {
-        kept = refl;
-        passed = λ k l. absurd (omega arith);
-        ahead = λ k l. refl;
-        left = λ l. absurd (omega arith);
-        corner = λ l. absurd (omega arith);
-      }
-
   -- one number more, where the old row is that of one top pin less
   pub row_more :
       (j before diagonal : ℕ) (new : List ℕ) → (0 < i → (k : ℕ) → k < length old → get_or old k 0 ≡ lower_bound loads (i - 1) k)

@@ -1,11 +1,7 @@
 -- Demands 1 and 2 of the C functions: what a call of `cazdrob_search`, `cazdrob_measure`, `cazdrob_tracks` or `cazdrob_modules` returned
 -- and left, and what a call of `cazdrob_distance` says.
 -- Assumes nothing.
-use Prim.Native.Nat.{ℕ}
-use mathlib.Core.Path.{◌≡◌, refl}
-use mathlib.Core.List.{List}
-use lib.ListN.{length}
-use lib.IntN.{ℤ}
+use Rattle.std.proofs.Common.{◌≡◌, ℕ, List, length, ℤ, refl}
 use Rattle.channel.specs.Distance.{amount, Says}
 use Rattle.channel.proofs.Distances.{amount_says}
 use Rattle.search.specs.Answer.{searched_of, Searches}

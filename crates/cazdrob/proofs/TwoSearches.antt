@@ -1,8 +1,6 @@
 -- Demand 3 of the C functions: what two calls of `cazdrob_search` returned and left.
 -- Assumes nothing.
-use Prim.Native.Nat.{ℕ}
-use mathlib.Core.List.{List}
-use lib.ListN.{length}
+use Rattle.std.proofs.Common.{ℕ, List, length}
 use Rattle.channel.specs.Sheet.{Sheet}
 use Rattle.search.specs.Returned.{LongEnough}
 use Rattle.search.specs.Pair.{Kept}

@@ -16,13 +16,6 @@ drop-put cells at w n h =
     ∙ drop-set-lt n _ (at + 1) _ (omega arith)
     ∙ drop-set-lt n cells at _ (omega arith)
 
--- one cell put in
-other : (l : List ℕ) (i k v : ℕ) → k ≢ i → get_or (set l i v) k 0 ≡ get_or l k 0
-other l i k v h = get_or-set_other l i k v 0 h
-
-same : (l : List ℕ) (i v : ℕ) → i < length l → get_or (set l i v) i 0 ≡ v
-same l i v h = get_or-set_same l i v 0 h
-
 -- a cell that is none of the four stays
 pub cell-put : (cells : List ℕ) (at w k : ℕ) → (k < at) ⊎ (at + 4 ≤ k) → get_or (put_word cells at w) k 0 ≡ get_or cells k 0
 unfolding put_word
@@ -31,7 +24,7 @@ cell-put cells at w k h =
     let b : k ≢ at + 1 = away (at + 1) (omega arith) h in
     let c : k ≢ at + 2 = away (at + 2) (omega arith) h in
     let d : k ≢ at + 3 = away (at + 3) (omega arith) h in
-    rw (other, other, other, other)
+    rw (get_or-set_other, get_or-set_other, get_or-set_other, get_or-set_other)
   where
     away : (m : ℕ) → (at ≤ m) × (m < at + 4) → (k < at) ⊎ (at + 4 ≤ k) → k ≢ m
     away m l (inl g) e = omega arith
@@ -67,10 +60,10 @@ four l at a b c d h =
     let n₁₂ : at + 1 ≢ at + 2 = λ e. omega arith in
     let n₁₃ : at + 1 ≢ at + 3 = λ e. omega arith in
     let n₂₃ : at + 2 ≢ at + 3 = λ e. omega arith in (
-      rw (other, other, other, same),
-      rw (other, other, same (set l at a) (at + 1) b (simp length-set r₁)),
-      rw (other, same (set (set l at a) (at + 1) b) (at + 2) c (simp length-set r₂)),
-      same (set (set (set l at a) (at + 1) b) (at + 2) c) (at + 3) d (simp length-set r₃),
+      rw (get_or-set_other, get_or-set_other, get_or-set_other, get_or-set_same),
+      rw (get_or-set_other, get_or-set_other, get_or-set_same (set l at a) (at + 1) b 0 (simp length-set r₁)),
+      rw (get_or-set_other, get_or-set_same (set (set l at a) (at + 1) b) (at + 2) c 0 (simp length-set r₂)),
+      get_or-set_same (set (set (set l at a) (at + 1) b) (at + 2) c) (at + 3) d 0 (simp length-set r₃),
     )
 
 -- a word of 64 bits is read back

@@ -1,14 +1,7 @@
 -- An assignment and its word are the same thing: each is made from the other, and the way there and back changes nothing.
 -- Assumes nothing.
-use Prim.Native.Nat.{ℕ, suc, ◌+◌, ◌≤◌, zero-le}
-use native.Mathlib.Omega.{arith}
-use mathlib.Core.Path.{◌≡◌, refl, ap}
-use mathlib.Core.List.{List, [], ◌∷◌}
-use mathlib.Core.Bool.{Bool, true, false, ◌&&◌, false≢true, and-eq-true_iff}
-use lib.ListN.{length, take-append-drop}
-use lib.Seq.{take_at, drop_at}
-use lib.Dec.{leb}
-use borrow.Author.Tests.{leb-true}
+use Rattle.std.proofs.Common.{◌≡◌, ℕ, suc, ◌+◌, ◌≤◌, Bool, true, false, ◌&&◌, leb, List, [], ◌∷◌, length, refl, ap, zero-le, arith, take-append-drop, take_at, drop_at, leb-true}
+use mathlib.Core.Bool.{false≢true, and-eq-true_iff}
 use Rattle.channel.specs.Sheet.{Terminal, Sheet, Sound, SoundFrom}
 use Rattle.channel.specs.Assignment.{allows, in_range, later_fit, side_fits, fits, top_columns, bottom_columns, is_assignment}
 use Rattle.channel.specs.Word.{Letter, has_top, has_bottom, word, columns_with, columns_of}

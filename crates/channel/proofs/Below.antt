@@ -1,14 +1,9 @@
--- Laws of a test of the numbers below a bound: from a number that meets it and back, one number more, a part that does not depend on
+-- Laws of a test of the numbers below a bound: from a number that meets it and back, a part that does not depend on
 -- the number, two numbers in either order, and a start before which no number meets it.
 -- Assumes nothing.
-use Prim.Native.Nat.{ℕ, zero, suc, ◌+◌, ◌<◌}
-use mathlib.Core.Path.{◌≡◌, refl, sym, ◌∙◌, ap, ap₂}
-use mathlib.Core.Bool.{Bool, true, false, ◌&&◌, ◌||◌, true≢false, and-false, or-true}
-use native.Mathlib.Omega.{arith}
-use native.Mathlib.Nat.{zero-add, suc-add}
-use native.Mathlib.Numerals.{add-one}
-use lib.Dec.{eqb}
-use borrow.Author.Tests.{eqb-true, eqb-false}
+use Rattle.std.proofs.Common.{◌≡◌, ℕ, zero, suc, ◌+◌, ◌<◌, Bool, true, false, ◌&&◌, ◌||◌, eqb, sym, refl, ap, ◌∙◌, ap₂, true≢false, suc-add, zero-add, arith, eqb-true}
+use mathlib.Core.Bool.{and-false, or-true}
+use borrow.Author.Tests.{eqb-false}
 use Rattle.channel.specs.Below.{any_below}
 
 -- tests that agree below n
@@ -39,14 +34,6 @@ any_below_to (suc n) f e = by-test (any_below_to n f) (f n) refl e
 pub any_below-none : (n : ℕ) (f : ℕ → Bool) → ((k : ℕ) → k < n → f k ≡ false) → any_below n f ≡ false
 any_below-none zero f h = refl
 any_below-none (suc n) f h = rw (h n (omega arith)) (any_below-none n f (λ k l. h k (omega arith)))
-
--- one number more, where the first of two tests holds of it, and where it does not
-module _ (n : ℕ) (a b : ℕ → Bool) where
-  pub any_below-taken : a n ≡ true → any_below (n + 1) (λ (m : ℕ). a m && b m) ≡ (b n || any_below n (λ (m : ℕ). a m && b m))
-  any_below-taken e = rw (add-one n, e)
-
-  pub any_below-left : a n ≡ false → any_below (n + 1) (λ (m : ℕ). a m && b m) ≡ any_below n (λ (m : ℕ). a m && b m)
-  any_below-left e = rw (add-one n, e)
 
 -- a part of the test that does not depend on the number
 pub any_below-and : (a : Bool) (n : ℕ) (f : ℕ → Bool) → (a && any_below n f) ≡ any_below n (λ (k : ℕ). a && f k)

@@ -1,13 +1,7 @@
 -- Demand 2: what `best` finds is the best assignment of a sheet, and it finds none exactly when there is no assignment.
 -- Assumes nothing.
-use Prim.Native.Nat.{ℕ, ◌≤◌, ◌<◌}
-use native.Mathlib.Omega.{arith}
-use mathlib.Core.Path.{◌≡◌, refl, sym, subst, ◌∙◌}
-use mathlib.Core.Logic.{◌↔◌}
-use mathlib.Core.List.{List, [], ◌∷◌, Memᴰ}
-use mathlib.Core.Bool.{Bool, true, false, cond, true≢false}
-use lib.Dec.{leb}
-use borrow.Author.Tests.{leb-true, leb-false}
+use Rattle.std.proofs.Common.{◌≡◌, ℕ, ◌<◌, ◌≤◌, Bool, true, false, cond, leb, ◌↔◌, List, [], ◌∷◌, sym, refl, ◌∙◌, subst, true≢false, arith, leb-false, leb-true}
+use mathlib.Core.List.{Memᴰ}
 use Rattle.channel.specs.Sheet.{Sheet, Sound}
 use Rattle.channel.specs.Assignment.{is_assignment}
 use Rattle.channel.specs.Density.{density}

@@ -1,13 +1,7 @@
 -- A word and its columns: rising columns are those of the word made from them, and a word is the one made from its columns.
 -- Assumes nothing.
-use Prim.Native.Nat.{ℕ, zero, suc, ◌≤◌, ◌<◌, zero-le}
-use native.Mathlib.Omega.{arith}
-use mathlib.Core.Path.{◌≡◌, refl, sym, ap, ◌∙◌}
-use mathlib.Core.List.{List, [], ◌∷◌, ◌++◌, append-nil}
-use mathlib.Core.Bool.{Bool, true, false, cond, ◌||◌, or_assoc, or-false}
-use lib.ListN.{length}
-use lib.Dec.{leb, eqb}
-use borrow.Author.Tests.{leb-true, leb-false, eq-eqb, ne_eqb}
+use Rattle.std.proofs.Common.{◌≡◌, ℕ, zero, suc, ◌<◌, ◌≤◌, Bool, true, false, cond, ◌||◌, eqb, leb, List, [], ◌∷◌, ◌++◌, length, sym, refl, ap, ◌∙◌, append-nil, zero-le, arith, eq-eqb, ne_eqb, leb-false, leb-true}
+use mathlib.Core.Bool.{or_assoc, or-false}
 use Rattle.channel.specs.Density.{any}
 use Rattle.channel.specs.Word.{Letter, has_top, has_bottom, letter, word_of, columns_with}
 use Rattle.channel.specs.Word.Letter.{empty, top, bottom, both}

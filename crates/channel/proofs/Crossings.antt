@@ -1,14 +1,9 @@
 -- What document 01 says of crossing ("Column, crossing, density") and document 02 of leaving nets (T-03): nets that cross nothing, what a
 -- leaving net crosses, and the density with no terminals.
 -- Assumes nothing.
-use Prim.Native.Nat.{ℕ, zero, suc}
-use mathlib.Core.Path.{◌≡◌, refl}
-use mathlib.Core.List.{List, [], ◌∷◌, ◌++◌}
-use mathlib.Core.Bool.{Bool, true, false, cond, ◌&&◌, ◌||◌, and-false, and-true, or_comm, or_self, or-true, or-false}
-use native.Mathlib.Omega.{arith}
-use lib.ListN.{length}
-use lib.Dec.{leb, ltb, eqb}
-use borrow.Author.Tests.{le-leb, lt-leb, ltb-true, ltb-false, eqb-true, eqb-false, ne_eqb}
+use Rattle.std.proofs.Common.{◌≡◌, ℕ, zero, suc, Bool, true, false, cond, ◌&&◌, ◌||◌, eqb, ltb, leb, List, [], ◌∷◌, ◌++◌, length, refl, arith, ltb-false, ltb-true, ne_eqb, eqb-true, le-leb}
+use mathlib.Core.Bool.{and-false, and-true, or_comm, or_self, or-true, or-false}
+use borrow.Author.Tests.{lt-leb, eqb-false}
 use Rattle.kind.specs.declared.Kind.{Kind}
 use Rattle.kind.specs.declared.Kind.TheVariants.{Plain, Left, Right, BothEnds}
 use Rattle.kind.specs.Kinds.{kind_of}

@@ -1,13 +1,9 @@
 -- What the amount of a distance says: 0 exactly in range, else by how many columns the distance breaks a bound, and which.
 -- Assumes nothing.
-use Prim.Native.Nat.{ℕ, zero, suc, ◌+◌, ◌-◌, ◌≤◌, ◌<◌}
-use mathlib.Core.Path.{◌≡◌, refl, sym, ap}
-use mathlib.Core.Bool.{Bool, true, false, and-eq-true_iff}
-use native.Mathlib.Omega.{arith}
-use lib.Dec.{ltb, leb, ltb→lt, lt→ltb}
+use Rattle.std.proofs.Common.{◌≡◌, ℕ, zero, suc, ◌+◌, ◌-◌, ◌<◌, ◌≤◌, Bool, true, false, ltb, leb, pos, negsuc, ◌-ℤ◌, neg_ℤ, nat_abs, sym, refl, ap, arith, ltb→lt, lt→ltb, le-ltb, lt-ltb, le-leb, leb-false, leb-true}
+use mathlib.Core.Bool.{and-eq-true_iff}
 use lib.Signed.{lt_z_yes}
-use lib.IntN.{pos, negsuc, neg_ℤ, ◌-ℤ◌, nat_abs, pos-ne-negsuc}
-use borrow.Author.Tests.{lt-ltb, le-ltb, le-leb, leb-true, leb-false}
+use lib.IntN.{pos-ne-negsuc}
 use Rattle.channel.specs.Assignment.{in_range}
 use Rattle.channel.specs.Distance.{distance, amount, Says}
 

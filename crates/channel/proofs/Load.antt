@@ -1,16 +1,9 @@
 -- The load lemma: the density of a word's columns is the greatest load of the word's occupied columns.
 -- Assumes nothing.
-use Prim.Native.Nat.{ℕ, zero, suc, ◌+◌, ◌≤◌, max}
-use mathlib.Core.Path.{◌≡◌, refl, sym, ap, ap₂, ◌∙◌, fun_ext}
-use mathlib.Core.List.{List, [], ◌∷◌, ◌++◌, append_assoc, append-nil}
-use mathlib.Core.Bool.{Bool, true, false, cond, ◌||◌, or-true, or-false, false≢true}
-use native.Mathlib.Nat.{le_refl, le_trans, le-max_left, le-max_right}
-use native.Mathlib.Numerals.{add-one}
-use native.Mathlib.Omega.{arith}
-use lib.ListN.{length, take, drop, take-append-drop}
-use lib.Seq.{drop-drop}
-use lib.Dec.{ltb, eqb}
-use borrow.Author.Tests.{lt-ltb, le-ltb, eq-eqb, ne_eqb}
+use Rattle.std.proofs.Common.{◌≡◌, ℕ, zero, suc, ◌+◌, ◌≤◌, max, Bool, true, false, cond, ◌||◌, eqb, ltb, List, [], ◌∷◌, ◌++◌, length, take, drop, sym, refl, ap, ◌∙◌, ap₂, append_assoc, append-nil, le_trans, le_refl, add-one, arith, take-append-drop, drop-drop, le-ltb, lt-ltb, eq-eqb, ne_eqb}
+use mathlib.Core.Path.{fun_ext}
+use mathlib.Core.Bool.{or-true, or-false, false≢true}
+use native.Mathlib.Nat.{le-max_left, le-max_right}
 use Rattle.kind.specs.declared.Kind.{Kind}
 use Rattle.kind.specs.Kinds.{kind_of, leaves_left, leaves_right}
 use Rattle.channel.specs.Sheet.{Terminal, Sheet}

@@ -1,12 +1,8 @@
 -- Words with their empty letters taken out or put in front: the pins and the load stay the same.
 -- Assumes nothing.
-use Prim.Native.Nat.{ℕ, zero, suc, ◌+◌, ◌-◌, ◌≤◌}
-use mathlib.Core.Path.{◌≡◌, refl, ◌∙◌}
-use mathlib.Core.List.{List, [], ◌∷◌, ◌++◌, append-nil}
-use mathlib.Core.Bool.{Bool, true, false, cond, ◌||◌}
+use Rattle.std.proofs.Common.{◌≡◌, ℕ, zero, suc, ◌+◌, ◌-◌, ◌≤◌, Bool, true, false, cond, ◌||◌, List, [], ◌∷◌, ◌++◌, length, replicate, refl, ◌∙◌, append-nil, arith, length-append}
 use native.Mathlib.Nat.{zero-max}
-use native.Mathlib.Omega.{arith}
-use lib.ListN.{length, replicate, length-append, length-replicate}
+use lib.ListN.{length-replicate}
 use Rattle.channel.specs.Sheet.{Sheet}
 use Rattle.channel.specs.Word.{Letter, has_top, has_bottom, columns_with}
 use Rattle.channel.specs.Word.Letter.{empty, top, bottom, both}

@@ -1,12 +1,10 @@
 -- Demand 3 of the best assignment: a sheet loosened keeps existence and does not raise the least density, and a sheet lengthened has
 -- the same one.
 -- Assumes nothing.
-use Prim.Native.Nat.{ℕ, ◌+◌, ◌-◌, ◌≤◌}
-use mathlib.Core.Path.{◌≡◌, refl, sym, ap, ◌∙◌}
-use mathlib.Core.List.{List, [], ◌∷◌, ◌++◌, map-append}
-use mathlib.Core.Bool.{Bool, true, false, cond, false≢true}
-use native.Mathlib.Omega.{arith}
-use lib.ListN.{length, replicate, length-append, length-replicate, length-map}
+use Rattle.std.proofs.Common.{◌≡◌, ℕ, ◌+◌, ◌-◌, ◌≤◌, Bool, true, false, cond, List, [], ◌∷◌, ◌++◌, length, replicate, sym, refl, ap, ◌∙◌, arith, length-append}
+use mathlib.Core.List.{map-append}
+use mathlib.Core.Bool.{false≢true}
+use lib.ListN.{length-replicate, length-map}
 use Rattle.channel.specs.Sheet.{Terminal, Sheet, Sound}
 use Rattle.channel.specs.Assignment.{side_fits, fits, is_assignment}
 use Rattle.channel.specs.Density.{nets_of, density}

@@ -1,15 +1,7 @@
 -- The columns of a word rise from the left, and a word's pins split at a column into those left of it, in it and right of it.
 -- Assumes nothing.
-use Prim.Native.Nat.{ℕ, zero, suc, ◌+◌, ◌≤◌, ◌<◌}
-use mathlib.Core.Path.{◌≡◌, refl, sym, ◌∙◌}
-use mathlib.Core.List.{List, [], ◌∷◌, ◌++◌, append_assoc, append-nil}
-use mathlib.Core.Bool.{Bool, true, false, cond, ◌&&◌, ◌||◌, or_assoc, or-true, and-true, and-false, and-or_distrib_left}
-use native.Mathlib.Nat.{le_refl}
-use native.Mathlib.Omega.{arith}
-use lib.ListN.{length, take, drop, length-append, length-take, length-drop}
-use lib.Dec.{eqb}
-use lib.Seq.{drop-drop, take_at, drop_at}
-use native.Mathlib.Numerals.{add-one}
+use Rattle.std.proofs.Common.{◌≡◌, ℕ, zero, suc, ◌+◌, ◌<◌, ◌≤◌, Bool, true, false, cond, ◌&&◌, ◌||◌, eqb, List, [], ◌∷◌, ◌++◌, length, take, drop, sym, refl, ◌∙◌, append_assoc, append-nil, le_refl, add-one, arith, length-append, length-drop, length-take, drop-drop, take_at, drop_at}
+use mathlib.Core.Bool.{or_assoc, or-true, and-true, and-false, and-or_distrib_left}
 use Rattle.channel.specs.Sheet.{Terminal, Sheet}
 use Rattle.channel.specs.Density.{any, pins, some_pin}
 use Rattle.channel.specs.Word.{Letter, has_top, has_bottom, columns_with, columns_of}

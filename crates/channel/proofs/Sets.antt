@@ -1,15 +1,9 @@
 -- Laws of allowed sets: which columns a set names, and that `names_above` says what its name says.
 -- Assumes nothing.
-use Prim.Native.Nat.{ℕ, zero, suc, ◌+◌, ◌-◌, ◌*◌, ◌/◌, ◌%◌, ◌^◌, ◌≤◌, ◌<◌}
-use mathlib.Core.Path.{◌≡◌, refl, sym, ◌∙◌, ap}
-use mathlib.Core.Logic.{◌↔◌}
-use mathlib.Core.Bool.{Bool, true, false, not, true≢false}
-use native.Mathlib.Omega.{arith}
-use native.Mathlib.Nat.{div-eq_of_lt, div-lt_iff_lt-mul, div-one, le-div_iff_mul-le, lt_of_lt_of_le}
-use lib.Dec.{leb, eqb}
+use Rattle.std.proofs.Common.{◌≡◌, ℕ, zero, suc, ◌+◌, ◌-◌, ◌*◌, ◌/◌, ◌%◌, ◌^◌, ◌<◌, ◌≤◌, Bool, true, false, not, eqb, leb, ◌↔◌, sym, refl, ap, ◌∙◌, true≢false, lt_of_lt_of_le, div-lt_iff_lt-mul, le-div_iff_mul-le, div-one, arith, pow_pos, pow_mono, shr-shr, eq-eqb, ne_eqb, eqb-true, leb-false, leb-true}
+use native.Mathlib.Nat.{div-eq_of_lt}
 use lib.Arith.{bin_ind}
-use lib.Pow.{pow_pos, pow_mono, shr-shr}
-use borrow.Author.Tests.{leb-true, leb-false, eq-eqb, ne_eqb, eqb-true, eqb-false}
+use borrow.Author.Tests.{eqb-false}
 use Rattle.channel.specs.Sheet.{names_above}
 use Rattle.channel.specs.Assignment.{allows}
 

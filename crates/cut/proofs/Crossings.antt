@@ -1,6 +1,6 @@
 -- The loads that a loop over the nets' places counts are the loads of the cut.
 -- Assumes nothing.
-use Rattle.std.proofs.Common.{ℕ, ◌+◌, ◌≤◌, ◌<◌, ◌≡◌, refl, ap, ◌∙◌, List, [], ◌∷◌, ◌++◌, Bool, true, false, cond, ◌||◌, arith, add-one, length, get_or, drop, drop_of_length-le, leb, ltb, eqb, drop-cons}
+use Rattle.std.proofs.Common.{ℕ, ◌+◌, ◌≤◌, ◌<◌, ◌≡◌, refl, ap, ◌∙◌, List, [], ◌∷◌, ◌++◌, Bool, true, false, cond, ◌||◌, arith, add-one, length, get_or, drop, leb, ltb, eqb, drop-cons}
 use mathlib.Core.Path.{fun_ext}
 use mathlib.Core.Bool.{or-false, false≢true}
 use mir.Val.{bool_byte}
@@ -87,9 +87,6 @@ small-more c l s m h =
 pub loads-next : (c : Cut) (l : Loads) (places : List NetPlaces) (m : ℕ) (s : NetPlaces) → m < length places
     → loads_from c l (drop m places) ≡ loads_from c (with_net c l (get_or places m s)) (drop (m + 1) places)
 loads-next c l places m s h = rw (add-one, drop-cons places m s h)
-
-pub loads-end : (c : Cut) (l : Loads) (places : List NetPlaces) (m : ℕ) → length places ≤ m → loads_from c l (drop m places) ≡ l
-loads-end c l places m h = ap (loads_from c l) (drop_of_length-le places h)
 
 byte_test : (b : Bool) → bool_byte b ≡ cond b 1 0
 byte_test true = refl

@@ -1,13 +1,12 @@
 -- The ends of a net on one side, and the net of the last pin so far, say which stretches of the side it stands in at a column.
 -- Assumes nothing.
-use Rattle.std.proofs.Common.{ℕ, zero, suc, ◌-◌, ◌≤◌, ◌≡◌, refl, ◌∙◌, List, Bool, true, false, ◌||◌, arith, length, get_or, drop-cons}
+use Rattle.std.proofs.Common.{ℕ, zero, suc, ◌≤◌, ◌≡◌, refl, ◌∙◌, List, Bool, true, false, ◌||◌, arith, length, drop-cons}
 use mathlib.Core.Bool.{or-false}
 use lib.Dec.{leb-suc-suc}
 use Rattle.kind.specs.Kinds.{kind_of, leaves_left}
 use Rattle.channel.specs.Cut.{has, left_of, here_of}
 use Rattle.places.specs.Places.{ends_of}
 use Rattle.places.proofs.Sides.{first-left}
-use Rattle.cut.specs.declared.Stand.{Stand}
 use Rattle.cut.specs.Counts.{stand_of, left_test, here_test}
 
 -- of one side, with a pin in the column if h
@@ -22,8 +21,3 @@ pub side_here : (h : Bool) (n : ℕ) (ns : List ℕ) (i : ℕ) → (h ≡ true �
 side_here true n ns zero some k = absurd (omega (arith, some refl))
 side_here true n ns (suc i) some k = rw (drop-cons ns i 0, or-false)
 side_here false n ns i some k = refl
-
--- the pin at place i has index i - 1
-pub stand_some : (ns : List ℕ) (i : ℕ) → (i ≡ 0 → ⊥) → ◌≡◌ {A = Stand} (record { count = i; net = get_or ns (i - 1) 0 }) (stand_of ns i)
-stand_some ns zero h = absurd (h refl)
-stand_some ns (suc i) h = let e : suc i - 1 ≡ i = omega arith in rw e

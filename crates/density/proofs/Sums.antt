@@ -1,6 +1,6 @@
 -- Laws of the counting: one addition for each net gives the crossings of every column.
 -- Assumes nothing.
-use Rattle.std.proofs.Common.{zero, ◌-◌, ◌++◌, one-add, length-take-le, get_or-take, add-sub_of_le, ◌≡◌, ℕ, suc, ◌+◌, ◌<◌, ◌≤◌, max, Bool, true, false, cond, ◌&&◌, eqb, ltb, leb, List, [], ◌∷◌, length, get_or, take, drop, fold, replicate, length-drop, get_or-drop, take-suc, sym, refl, ap, ◌∙◌, add-zero, zero-add, arith, drop_of_length-le, ltb-false, ltb-true, le-ltb, lt-ltb, le-leb, leb-false, leb-true}
+use Rattle.std.proofs.Common.{zero, ◌-◌, ◌++◌, one-add, length-take-le, get_or-take, add-sub_of_le, ◌≡◌, ℕ, suc, ◌+◌, ◌<◌, ◌≤◌, max, Bool, true, false, cond, ◌&&◌, eqb, ltb, leb, List, [], ◌∷◌, length, get_or, take, drop, fold, replicate, length-drop, get_or-drop, take-suc, sym, refl, ap, ◌∙◌, add-zero, zero-add, arith, ltb-false, ltb-true, le-ltb, lt-ltb, le-leb, leb-false, leb-true}
 use borrow.Rule.Slice.PartMut.{put_mid}
 use Rattle.std.proofs.lemmas.List.Sums.{fold-append}
 use Rattle.std.proofs.lemmas.List.{get_or_append_left, get_or-append_right}
@@ -92,11 +92,6 @@ module _ (ps : List Pin) (n : ℕ) (ends : Ends) (answer : ends ≡ ends_of n ps
       let inside : net_spans ps c n ≡ within ends.left ends.right c = by_ends c ∙ rw (lt-ltb ends.left ends.right h) in
       added c ∙ ap (λ (t : Bool). get_or before c 0 + cond t 1 0) (sym inside)
 
-  pub uncounted : ends.right ≤ ends.left → Added 1 (λ (c : ℕ). net_spans ps c n) before before
-  uncounted h c =
-      let none : net_spans ps c n ≡ false = by_ends c ∙ rw (le-ltb ends.left ends.right h) in
-      sym (ap (λ (t : Bool). get_or before c 0 + cond t 1 0) none ∙ add-zero (get_or before c 0))
-
 -- the counts of the nets passed, with those that the i-th and later ones still add, are the crossings
 abbrev pub Counted : List ℕ → List ℕ → ℕ → List ℕ → Type 0
 Counted ns cs i counts = (c : ℕ) → get_or counts c 0 + sum_last (net_spans (pins_of ns cs) c) (drop i ns) ≡ counted_at ns cs c
@@ -111,10 +106,6 @@ module _ (ns cs : List ℕ) (i : ℕ) (counts : List ℕ) (so_far : Counted ns c
   pub counts_small : length ns ≤ 128 → Small counts
   unfolding counted_at
   counts_small h c = omega (arith, so_far c, sum_most (net_spans (pins_of ns cs) c) ns)
-
-  -- at last every count is that of its column
-  pub counted_all : length ns ≤ i → (c : ℕ) → get_or counts c 0 ≡ counted_at ns cs c
-  counted_all h c = let e = so_far c in rw (drop_of_length-le ns h, add-zero) at e
 
   -- a net that occurs again later is not counted here, and one that occurs last is
   module _ (inside : i < length ns) where

@@ -11,9 +11,6 @@ pub record Left (old : List ℕ) (at : ℕ) (all new : List ℕ) (end : ℕ) (re
   pub place : end + length rest ≡ at + length all
   pub size : length new ≡ length old
 
-pub all_left : (old : List ℕ) (at : ℕ) (all : List ℕ) → Left old at all old at all
-all_left old at all = record { bytes = refl; place = refl; size = refl }
-
 pub none_left : {old all new : List ℕ} {at end : ℕ} → Left old at all new end [] → Wrote old at all new end
 none_left {end = end} left = record { bytes = left.bytes; place = sym (add-zero end) ∙ left.place }
 

@@ -1,14 +1,9 @@
 -- What 1 to 5 leave: the numbers of the trailer are within their limits, and both sections lie in the file.
 -- Assumes nothing.
-use Rattle.std.proofs.Common.{Ok}
-use Prim.Native.Nat.{ℕ, ◌+◌, ◌*◌, ◌≤◌, ◌<◌}
-use mathlib.Core.Path.{◌≡◌, refl}
-use mathlib.Core.List.{List}
-use mathlib.Core.Bool.{Bool, true, false, not, ◌||◌, true≢false, and-eq-true_iff}
-use native.Mathlib.Omega.{arith}
-use lib.ListN.{length}
-use lib.Dec.{eqb, ltb}
-use borrow.Author.Tests.{ltb-false, eqb-true, eqb-false, not-false}
+use Rattle.std.proofs.Common.{◌≡◌, ℕ, ◌+◌, ◌*◌, ◌<◌, ◌≤◌, Bool, true, false, not, ◌||◌, eqb, ltb, List, length, Ok, refl, arith, ltb-false, eqb-true}
+use Rattle.std.proofs.lemmas.Bool.{or_parts}
+use mathlib.Core.Bool.{and-eq-true_iff}
+use borrow.Author.Tests.{eqb-false, not-false}
 use Rattle.refusals.specs.declared.Refusal.TheVariants.{Short, Mark, Length, Count, Layout}
 use Rattle.refusals.specs.Refusals.{refuse}
 use Rattle.refusals.proofs.Refused.{or_else_sound, refuse-sound}
@@ -18,11 +13,6 @@ use Rattle.channel.specs.declared.Side.{Side}
 use Rattle.channel.specs.declared.Side.TheVariants.{Top, Bottom}
 use Rattle.format.specs.Format.{record_size, part_of}
 use Rattle.form.specs.Form.{follows, laid_out, trailer_check, form_of}
-
--- neither of two tests holds where their disjunction does not
-neither : (a b : Bool) → (a || b) ≡ false → (a ≡ false) × (b ≡ false)
-neither true b h = absurd (true≢false h)
-neither false b h = (refl, h)
 
 -- of two sections that fill a file before its trailer, the one that follows and the one that starts it end in the file
 module _ (first second : Part) (len : ℕ) (size : len ≡ record_size * (first.count + second.count) + trailer_size) where
@@ -68,8 +58,8 @@ formed b h =
     let (mark, h₃) = or_else_sound (refuse (not (has_mark b CP)) Mark) _ h₂ in
     let (columns, h₄) = or_else_sound (refuse (eqb t.columns 0 || ltb 64 t.columns) Length) _ h₃ in
     let (counts, layout) = or_else_sound (refuse (ltb 64 t.top.count || ltb 64 t.bottom.count) Count) _ h₄ in
-    let (c₁, c₂) = neither (eqb t.columns 0) (ltb 64 t.columns) (refuse-sound _ Length columns) in
-    let (p, q) = neither (ltb 64 t.top.count) (ltb 64 t.bottom.count) (refuse-sound _ Count counts) in
+    let (c₁, c₂) = or_parts (eqb t.columns 0) (ltb 64 t.columns) (refuse-sound _ Length columns) in
+    let (p, q) = or_parts (ltb 64 t.top.count) (ltb 64 t.bottom.count) (refuse-sound _ Count counts) in
     let (top, bottom) = laid_out_room t.top t.bottom (length b) (not-false _ (refuse-sound _ Layout layout)) in
     let positive : t.columns ≡ 0 → ⊥ = eqb-false t.columns 0 c₁ in
     record {

@@ -1,12 +1,6 @@
 -- A net's ends in the channel: how far it reaches, cut to columns 1 to l. Its interval says which of these columns it crosses.
 -- Assumes nothing.
-use Prim.Native.Nat.{ℕ, ◌≤◌, ◌<◌, min, max}
-use native.Mathlib.Omega.{arith}
-use mathlib.Core.Path.{◌≡◌, refl, sym, ◌∙◌}
-use mathlib.Core.List.{List, [], ◌∷◌}
-use mathlib.Core.Bool.{Bool, true, false, cond, ◌&&◌, ◌||◌, true≢false}
-use lib.Dec.{leb, ltb, eqb}
-use borrow.Author.Tests.{leb-true, leb-false, le-leb, ltb-true, ltb-false, le-ltb}
+use Rattle.std.proofs.Common.{◌≡◌, ℕ, ◌<◌, ◌≤◌, min, max, Bool, true, false, cond, ◌&&◌, ◌||◌, eqb, ltb, leb, List, [], ◌∷◌, sym, refl, ◌∙◌, true≢false, arith, ltb-false, ltb-true, le-ltb, le-leb, leb-false, leb-true}
 use Rattle.kind.specs.Kinds.{kind_of, leaves_left, leaves_right, left_start, right_start}
 use Rattle.channel.specs.Sheet.{Terminal}
 use Rattle.channel.specs.Density.{any, Pin, pins, some_pin, crossing, crosses}

@@ -1,8 +1,7 @@
 -- Laws of what holds of each in a list, of each two, and of some.
 -- Assumes nothing.
-use mathlib.Core.Path.{◌≡◌, refl, sym}
-use mathlib.Core.List.{List, [], ◌∷◌, ◌++◌, map}
-use mathlib.Core.Bool.{Bool, true, false, ◌&&◌, ◌||◌, or-true, true≢false}
+use Rattle.std.proofs.Common.{◌≡◌, Bool, true, false, ◌||◌, List, [], ◌∷◌, ◌++◌, map, refl, true≢false}
+use mathlib.Core.Bool.{or-true}
 use Rattle.channel.specs.Density.{any}
 use Rattle.left_edge.specs.Lists.{Each, Pairwise}
 
@@ -63,11 +62,3 @@ any_none {A} f (x ∷ xs) h = go (f x) refl h (any_none f xs)
         → Each (λ (y : A). f y ≡ false) (x ∷ xs)
     go true q h r = absurd (true≢false h)
     go false q h r = (q, r h)
-
-pub is_false : (b : Bool) → (b ≡ true → ⊥) → b ≡ false
-is_false true h = absurd (h refl)
-is_false false h = refl
-
-pub both_true : (a b : Bool) → (a && b) ≡ true → (a ≡ true) × (b ≡ true)
-both_true true b h = (refl, h)
-both_true false b h = absurd (true≢false (sym h))

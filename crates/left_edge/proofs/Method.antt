@@ -1,21 +1,16 @@
 -- The left-edge method on intervals that come by left end: nets on one track share no column, each is on the lowest free track, and so the
 -- tracks are as many as the most nets in one column.
 -- Assumes nothing.
-use Prim.Native.Nat.{ℕ, zero, suc, ◌≤◌, ◌<◌}
-use native.Mathlib.Omega.{arith}
-use mathlib.Core.Path.{◌≡◌, refl, sym, ap, ◌∙◌}
-use mathlib.Core.List.{List, [], ◌∷◌, map}
-use mathlib.Core.Bool.{Bool, true, false, cond, ◌&&◌, ◌||◌, true≢false}
-use lib.ListN.{get_or}
-use lib.Dec.{leb, ltb, eqb, eqb-zero-suc, eqb-suc-zero, eqb-suc-suc}
-use borrow.Author.Tests.{leb-true, le-leb, ltb-true, ltb-false, eq-eqb, eqb-true}
+use Rattle.std.proofs.Common.{◌≡◌, ℕ, zero, suc, ◌<◌, ◌≤◌, Bool, true, false, cond, ◌&&◌, ◌||◌, eqb, ltb, leb, List, [], ◌∷◌, map, get_or, sym, refl, ap, ◌∙◌, true≢false, arith, ltb-false, ltb-true, eq-eqb, eqb-true, le-leb, leb-true}
+use Rattle.std.proofs.lemmas.Bool.{false_from_ne_true, and_parts}
+use lib.Dec.{eqb-zero-suc, eqb-suc-zero, eqb-suc-suc}
 use Rattle.channel.specs.Density.{any, weight_of, maximum_to}
 use Rattle.left_edge.specs.declared.Interval.{Interval}
 use Rattle.left_edge.specs.declared.Span.{Span}
 use Rattle.left_edge.specs.Lists.{Each, Pairwise, EachAfter}
 use Rattle.left_edge.specs.Method.{passed, place, track_on, step, span_on, left_edge_from, left_edge}
 use Rattle.left_edge.specs.Routes.{Clear, Zero, Lowest, Routes}
-use Rattle.left_edge.proofs.Lists.{each_map, each_all, is_false, both_true}
+use Rattle.left_edge.proofs.Lists.{each_map, each_all}
 use Rattle.left_edge.proofs.Number.{Begins, number, used}
 
 -- The tracks' ends by index: 0 behind the last. The lowest free track ended left of l, and those below it reach l
@@ -97,8 +92,8 @@ module _ (l : ℕ) (crossing : ℕ → ℕ → Bool) where
 
     in-crosses : (c : ℕ) → 1 ≤ c → c ≤ l → crossing x.net c ≡ true → (x.counts ≡ true) × (x.left ≤ c) × (c ≤ x.right)
     in-crosses c p q e =
-        let (counts, ends) = both_true x.counts (leb x.left c && leb c x.right) (sym (fits.exact c p q) ∙ e) in
-        let (from, to) = both_true (leb x.left c) (leb c x.right) ends in
+        let (counts, ends) = and_parts x.counts (leb x.left c && leb c x.right) (sym (fits.exact c p q) ∙ e) in
+        let (from, to) = and_parts (leb x.left c) (leb c x.right) ends in
         (counts, leb-true x.left c from, leb-true c x.right to)
 
   -- "Nets that cross nothing get track 0", and no others
@@ -106,7 +101,7 @@ module _ (l : ℕ) (crossing : ℕ → ℕ → Bool) where
   zero_one es x fits = (forth, back)
     where
       forth : track_on es x ≡ 0 → (c : ℕ) → 1 ≤ c → c ≤ l → crossing x.net c ≡ false
-      forth e c p q = is_false (crossing x.net c) (λ d. omega (arith, rw (in-crosses x fits c p q d).0 at e))
+      forth e c p q = false_from_ne_true (crossing x.net c) (λ d. omega (arith, rw (in-crosses x fits c p q d).0 at e))
 
       back : ((c : ℕ) → 1 ≤ c → c ≤ l → crossing x.net c ≡ false) → track_on es x ≡ 0
       back f = go x.counts refl
@@ -133,7 +128,7 @@ module _ (l : ℕ) (crossing : ℕ → ℕ → Bool) where
   After es y = (k c : ℕ) → y.track ≡ suc k → 1 ≤ c → c ≤ l → c ≤ get_or es k 0 → crossing y.net c ≡ false
 
   after_one : (es : List ℕ) (x : Interval) → Fits x → After es (span_on es x)
-  after_one es x fits k c e p q h = is_false (crossing x.net c) refute
+  after_one es x fits k c e p q h = false_from_ne_true (crossing x.net c) refute
     where
       refute : crossing x.net c ≡ true → ⊥
       refute d =

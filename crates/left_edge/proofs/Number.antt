@@ -1,19 +1,16 @@
 -- Why the tracks are as many as the most nets in one column. Not fewer: the nets of a column are on different tracks. Not more: on each
 -- track below a net's own, another crosses its left end. For the same reason no track up to the greatest is left out.
 -- Assumes nothing.
-use Prim.Native.Nat.{ℕ, zero, suc, ◌+◌, ◌≤◌, ◌<◌, max}
-use native.Mathlib.Omega.{arith}
-use mathlib.Core.Path.{◌≡◌, refl, sym, ap, ◌∙◌}
-use mathlib.Core.List.{List, [], ◌∷◌, map}
-use mathlib.Core.Bool.{Bool, true, false, cond, ◌&&◌, ◌||◌, or-true, true≢false}
-use lib.Dec.{leb, ltb, eqb}
-use borrow.Author.Tests.{leb-true, leb-false, le-leb, lt-leb, ltb-true, ltb-false, eqb-true, eqb-false}
+use Rattle.std.proofs.Common.{◌≡◌, ℕ, zero, suc, ◌+◌, ◌<◌, ◌≤◌, max, Bool, true, false, cond, ◌&&◌, ◌||◌, eqb, ltb, leb, List, [], ◌∷◌, map, sym, refl, ap, ◌∙◌, true≢false, arith, ltb-false, ltb-true, eqb-true, le-leb, leb-false, leb-true}
+use Rattle.std.proofs.lemmas.Bool.{and_parts}
+use mathlib.Core.Bool.{or-true}
+use borrow.Author.Tests.{lt-leb, eqb-false}
 use Rattle.channel.specs.Density.{any, weight_of, maximum_to}
 use Rattle.left_edge.specs.declared.Span.{Span}
 use Rattle.left_edge.specs.Lists.{Each, Pairwise, EachAfter}
 use Rattle.left_edge.specs.Method.{greatest}
 use Rattle.left_edge.specs.Routes.{Clear, Zero, Lowest}
-use Rattle.left_edge.proofs.Lists.{each_map, each_all, any_weaker, both_true}
+use Rattle.left_edge.proofs.Lists.{each_map, each_all, any_weaker}
 
 -- how many of a list a test holds of
 abbrev count : {A : Type 0} → (A → Bool) → List A → ℕ
@@ -133,7 +130,7 @@ module _ (l : ℕ) (crossing : ℕ → ℕ → Bool) where
             arith,
             count-filled c x.track (x ∷ before) (filled own),
             count_less (up_to c x.track) (over c) (x ∷ before)
-                (each_all _ (x ∷ before) (λ y q. (both_true (leb y.track x.track) (over c y) q).1)),
+                (each_all _ (x ∷ before) (λ y q. (and_parts (leb y.track x.track) (over c y) q).1)),
             h c first last,
           )
 
@@ -147,7 +144,7 @@ module _ (l : ℕ) (crossing : ℕ → ℕ → Bool) where
       go true e r = omega (arith, count_none (on c k) xs (each_map (Clear l crossing x) _ xs other h.0))
         where
           own : (eqb x.track k ≡ true) × (over c x ≡ true)
-          own = both_true (eqb x.track k) (over c x) e
+          own = and_parts (eqb x.track k) (over c x) e
 
           other : (y : Span) → Clear l crossing x y → on c k y ≡ false
           other y clear = at (eqb y.track k) refl
@@ -202,7 +199,7 @@ module _ (l : ℕ) (crossing : ℕ → ℕ → Bool) where
       go false d true e r =
           rw
           (any_weaker (λ (y : Span). eqb y.track t && over x.left y) (λ (y : Span). eqb y.track t) before
-          (λ y h. (both_true (eqb y.track t) (over x.left y) h).0) (low.0 t p (ltb-true t x.track e)))
+          (λ y h. (and_parts (eqb y.track t) (over x.left y) h).0) (low.0 t p (ltb-true t x.track e)))
       go false d false e r = let no = eqb-false x.track t d in r (omega (arith, ltb-false t x.track e))
 
   pub used : (xs : List Span) → EachAfter (Lowest l crossing) [] xs → (t : ℕ) → t < greatest xs

@@ -1,13 +1,9 @@
 -- Document 02, T-04, of a sheet and a column list: the spans of its nets, one a net in order, are what is asked, on as many tracks as the
 -- density.
 -- Assumes nothing.
-use Prim.Native.Nat.{ℕ, ◌≤◌, ◌<◌}
-use native.Mathlib.Omega.{arith}
-use mathlib.Core.Path.{◌≡◌, refl, sym, ap, subst, fun_ext, ◌∙◌}
-use mathlib.Core.List.{List, [], ◌∷◌, ◌++◌, map}
-use mathlib.Core.Bool.{Bool, true}
-use lib.ListN.{length, length-map, take-append-drop}
-use lib.Dec.{eqb}
+use Rattle.std.proofs.Common.{◌≡◌, ℕ, ◌<◌, ◌≤◌, Bool, true, eqb, List, [], ◌∷◌, ◌++◌, map, length, sym, refl, ap, ◌∙◌, subst, arith, take-append-drop}
+use mathlib.Core.Path.{fun_ext}
+use lib.ListN.{length-map}
 use Rattle.channel.specs.Sheet.{Sheet, Sound}
 use Rattle.channel.specs.Assignment.{is_assignment, top_columns, bottom_columns}
 use Rattle.channel.specs.Density.{any, Pin, pins, crosses, distinct, nets_of, column_density, maximum_to, density}

@@ -1,9 +1,6 @@
 -- Worked examples of the left-edge method, computed from the definitions.
 -- Assumes nothing.
-use Prim.Native.Nat.{ℕ}
-use mathlib.Core.Path.{◌≡◌, refl}
-use mathlib.Core.List.{[], ◌∷◌, map}
-use mathlib.Core.Bool.{Bool, true, false}
+use Rattle.std.proofs.Common.{◌≡◌, ℕ, Bool, true, false, [], ◌∷◌, map, refl}
 use Rattle.kind.specs.Kinds.{kind_of}
 use Rattle.channel.specs.Sheet.{Terminal, Sheet, sheet_with}
 use Rattle.channel.specs.Density.{crosses, nets_of, column_density, density}

@@ -1,13 +1,6 @@
 -- Laws of the lines: one terminal more of a side, and one list behind the other.
 -- Assumes nothing.
-use Rattle.std.proofs.Common.{Option}
-use Prim.Native.Nat.{ℕ, zero, suc, ◌+◌, ◌≤◌, ◌<◌}
-use mathlib.Core.Path.{◌≡◌, refl, sym, ◌∙◌, ap}
-use mathlib.Core.List.{List, [], ◌∷◌, ◌++◌, append-nil, append_assoc}
-use native.Mathlib.Omega.{arith}
-use native.Mathlib.Nat.{add-zero}
-use native.Mathlib.Numerals.{add-one}
-use lib.ListN.{length, get_or, take}
+use Rattle.std.proofs.Common.{◌≡◌, ℕ, zero, suc, ◌+◌, ◌<◌, ◌≤◌, List, [], ◌∷◌, ◌++◌, length, get_or, take, Option, sym, refl, ap, ◌∙◌, append_assoc, append-nil, add-zero, add-one, arith}
 use lib.Seq.{take-nil}
 use Rattle.channel.specs.Sheet.{Terminal}
 use Rattle.terminal.specs.Terminal.{record_of}

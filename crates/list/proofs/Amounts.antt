@@ -1,9 +1,6 @@
 -- Laws of amounts: which are 0, and which is the first that is not.
 -- Assumes nothing.
-use Prim.Native.Nat.{ℕ, zero, suc}
-use mathlib.Core.Path.{◌≡◌, refl, sym, ◌∙◌, ap}
-use mathlib.Core.Bool.{Bool, true, false, cond, ◌&&◌, true≢false}
-use lib.IntN.{ℤ, pos, negsuc}
+use Rattle.std.proofs.Common.{◌≡◌, ℕ, zero, suc, Bool, true, false, ◌&&◌, ℤ, pos, negsuc, sym, refl, ap, ◌∙◌, true≢false}
 use Rattle.channel.specs.Assignment.{in_range}
 use Rattle.channel.specs.Distance.{amount}
 use Rattle.channel.proofs.Distances.{amount_says}
@@ -18,10 +15,6 @@ pub zero_false : (z : ℤ) → (z ≡ pos 0 → ⊥) → is_zero z ≡ false
 zero_false (pos zero) h = absurd (h refl)
 zero_false (pos (suc n)) h = refl
 zero_false (negsuc n) h = refl
-
--- an amount that is not 0 is the first of any two
-pub first_found : (z next : ℤ) → (z ≡ pos 0 → ⊥) → first_of z next ≡ z
-first_found z next h = ap (λ (t : Bool). cond t next z) (zero_false z h)
 
 -- the first of two is 0 where both are
 pub zero_first : (z next : ℤ) → is_zero (first_of z next) ≡ (is_zero z && is_zero next)

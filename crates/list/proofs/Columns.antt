@@ -1,15 +1,6 @@
 -- The check of a column list, from what the sheet layer and the two tests answer.
 -- Assumes nothing.
-use Rattle.std.proofs.Common.{Ok, Err, Result}
-use Prim.Native.Nat.{ℕ, ◌+◌, ◌-◌, ◌≤◌}
-use mathlib.Core.Path.{◌≡◌, sym, ◌∙◌, ap}
-use mathlib.Core.List.{List}
-use mathlib.Core.Bool.{true, false, ◌&&◌}
-use native.Mathlib.Omega.{arith}
-use lib.ListN.{length, take, drop, length-drop}
-use lib.Seq.{take_all}
-use lib.IntN.{ℤ, pos}
-use borrow.Author.Tests.{eq-eqb, ne_eqb}
+use Rattle.std.proofs.Common.{◌≡◌, ℕ, ◌+◌, ◌-◌, ◌≤◌, true, false, ◌&&◌, List, length, take, drop, ℤ, pos, Ok, Err, Result, sym, ap, ◌∙◌, arith, length-drop, take_all, eq-eqb, ne_eqb}
 use Rattle.channel.specs.Sheet.{Terminal, Sheet, sheet_with}
 use Rattle.channel.specs.Assignment.{top_columns, bottom_columns}
 use Rattle.refusals.specs.declared.Refusal.{Refusal}

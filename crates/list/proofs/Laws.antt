@@ -1,14 +1,7 @@
 -- What the calls on an assignment may use of its check: the sheet opens with the layout that came with the answer, and the list is p+q long
 -- and an assignment.
 -- Assumes nothing.
-use Rattle.std.proofs.Common.{Result, Ok, Err}
-use Prim.Native.Nat.{ℕ, ◌+◌}
-use mathlib.Core.Path.{◌≡◌, refl, sym, ◌∙◌, ap}
-use mathlib.Core.List.{List}
-use mathlib.Core.Bool.{true}
-use native.Mathlib.Omega.{arith}
-use lib.ListN.{length}
-use lib.Dec.{eqb}
+use Rattle.std.proofs.Common.{◌≡◌, ℕ, ◌+◌, true, eqb, List, length, Ok, Err, Result, sym, refl, ap, ◌∙◌, arith}
 use Rattle.channel.specs.Sheet.{Sheet}
 use Rattle.channel.specs.Assignment.{is_assignment}
 use Rattle.soundness.specs.Read.{sheet_of}

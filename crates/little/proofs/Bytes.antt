@@ -1,6 +1,6 @@
 -- Laws of a number in bytes.
 -- Assumes nothing.
-use Rattle.std.proofs.Common.{◌≡◌, ℕ, suc, ◌+◌, ◌-◌, ◌*◌, ◌^◌, ◌<◌, ◌≤◌, List, get_or, refl, ap, ◌∙◌, ap₂, lt_of_lt_of_le, mul_comm, add_comm, arith, pow_mono, pow-add}
+use Rattle.std.proofs.Common.{◌≡◌, ℕ, suc, ◌+◌, ◌-◌, ◌*◌, ◌^◌, ◌<◌, ◌≤◌, List, get_or, refl, ap, ◌∙◌, lt_of_lt_of_le, mul_comm, add_comm, arith, pow_mono, pow-add}
 use native.Mathlib.Nat.{sub_self}
 use lib.Arith.{digits_lt}
 use Rattle.little.specs.Little.{little}
@@ -10,13 +10,10 @@ little-suc : (n : ℕ) (b : List ℕ) (i : ℕ) → little (suc n) b i ≡ get_o
 unfolding little
 little-suc n b i = refl
 
--- no byte is left out, or none is taken yet
+-- no byte is taken yet
 pub little-none : (n : ℕ) (b : List ℕ) (i : ℕ) → 0 ≡ little (n - n) b i
 unfolding little
 little-none n b i = rw sub_self
-
-pub little-all : (n k : ℕ) (b : List ℕ) (i : ℕ) → k ≤ 0 → little (n - k) b (i + k) ≡ little n b i
-little-all n k b i h = ap₂ (λ (m j : ℕ). little m b j) (omega arith) (omega arith)
 
 -- a number read from its last byte: k bytes are left, and one of them is taken
 pub little_down : (n k : ℕ) (b : List ℕ) (i : ℕ) → 0 < k → k ≤ n

@@ -5,7 +5,7 @@ use Rattle.arrays.specs.Rules.{pins}
 use Rattle.arrays.specs.Loads.{load_bytes, load_at, put_loads}
 use Rattle.arrays.proofs.Cuts.{length-put_loads, top-put, bottom-put, both-put, load-put_other}
 use Rattle.arrays.specs.declared.Loads.{Loads}
-use Rattle.load.specs.Cuts.{Cell, LoadsRead, Written}
+use Rattle.load.specs.Cuts.{Cell, Written}
 use Rattle.places.specs.declared.NetPlaces.{NetPlaces}
 use Rattle.places.specs.Places.{Listed}
 use Rattle.cut.specs.Counts.{cut_of, loads_at, possible_loads}
@@ -52,10 +52,6 @@ write_cell tops bottoms places listed i j h k old new l m all e f s =
       });
       others = λ x y letter g c o. load-put_other old i j m.top m.bottom m.both b x y letter g c (λ p q. o (p, q));
     })
-
--- nothing is written yet
-pub written_none : (tops bottoms a : List ℕ) (cuts : ℕ → ℕ → Type 0) → ((i j : ℕ) → cuts i j → ⊥) → Written tops bottoms a a cuts
-written_none tops bottoms a cuts none = record { size = refl; cell = λ i j r. absurd (none i j r); others = λ i j letter g c o. refl }
 
 -- a write of other cuts after one of some
 written-more : (tops bottoms a b c : List ℕ) (P Q R : ℕ → ℕ → Type 0)
@@ -104,26 +100,3 @@ row_more tops bottoms a b c i j few first second =
     (λ x y r. ⊎_elim (λ e. inr (r.0, e)) (λ h. inl (r.0, h)) (below_next y j r.1))
     (λ x y p. omega (arith, p.1))
     (λ x y p q. omega (arith, p.1, q.1))
-
-pub table_more : (tops bottoms a b c : List ℕ) (i : ℕ) → length bottoms ≤ pins
-    → Written tops bottoms a b (λ (x y : ℕ). (x < i) × (y < length bottoms + 1))
-    → Written tops bottoms b c (λ (x y : ℕ). (x ≡ i) × (y < length bottoms + 1))
-    → Written tops bottoms a c (λ (x y : ℕ). (x < i + 1) × (y < length bottoms + 1))
-table_more tops bottoms a b c i few first second =
-    written-more tops bottoms a b c _ _ (λ (x y : ℕ). (x < i + 1) × (y < length bottoms + 1)) first second
-    (λ x y p. (omega (arith, p.0), p.1))
-    (λ x y q. (omega (arith, q.0), q.1))
-    (λ x y r. ⊎_elim (λ e. inr (e, r.1)) (λ h. inl (h, r.1)) (below_next x i r.0))
-    (λ x y p. omega (arith, p.1))
-    (λ x y p q. omega (arith, p.0, q.0))
-
--- the whole table
-pub table_done : (tops bottoms a b : List ℕ) (i : ℕ) → i ≡ length tops + 1
-    → Written tops bottoms a b (λ (x y : ℕ). (x < i) × (y < length bottoms + 1))
-    → LoadsRead tops bottoms a b
-table_done tops bottoms a b i h all =
-    record {
-      size = all.size;
-      cell = λ x y p q. all.cell x y (omega arith, omega arith);
-      others = λ x y letter g c o. all.others x y letter g c (λ r. o (omega (arith, r.0)) (omega (arith, r.1)));
-    }

@@ -1,14 +1,7 @@
 -- A refusal leaves the sheet buffer, and a sheet that was written is read back.
 -- Assumes nothing.
-use Rattle.std.proofs.Common.{Result, Ok, Err}
-use Prim.Native.Nat.{ℕ, ◌≤◌, ◌<◌}
-use mathlib.Core.Path.{◌≡◌, refl, sym, ◌∙◌, ap, ap₂}
-use mathlib.Core.List.{List, ◌++◌}
-use native.Mathlib.Omega.{arith}
-use native.Mathlib.Nat.{zero-add}
-use lib.ListN.{length, get_or, take, drop}
-use lib.Seq.{sets-eq, take_at}
-use borrow.Author.Tests.{le-leb}
+use Rattle.std.proofs.Common.{◌≡◌, ℕ, ◌<◌, ◌≤◌, List, ◌++◌, length, get_or, take, drop, Ok, Err, Result, sym, refl, ap, ◌∙◌, ap₂, zero-add, arith, take_at, le-leb}
+use lib.Seq.{sets-eq}
 use Rattle.channel.specs.Sheet.{Sheet}
 use Rattle.text.specs.Writing.{Wrote}
 use Rattle.trailer.specs.Trailer.{CP}

@@ -1,15 +1,10 @@
 -- A set moved right: bit c + k of set * 2 ^ k is bit c of the set, there is none at or below k, and a module's set moved to one of its pins
 -- names no column outside the channel.
 -- Assumes nothing.
-use Prim.Native.Nat.{ℕ, zero, suc, ◌+◌, ◌-◌, ◌*◌, ◌/◌, ◌%◌, ◌^◌, ◌≤◌, ◌<◌}
-use mathlib.Core.Path.{◌≡◌, refl, sym, ◌∙◌, ap}
-use mathlib.Core.Bool.{Bool, true, false, not, true≢false}
-use mathlib.Core.Logic.{◌↔◌}
-use native.Mathlib.Omega.{arith}
-use native.Mathlib.Nat.{mul-div-mul_right, mul-mod_left, mul_assoc, zero-mul, lt_of_lt_of_le}
-use lib.Dec.{leb, eqb}
-use lib.Pow.{pow_pos, pow-add, pow_mono, shl-shr, shl_lt}
-use borrow.Author.Tests.{leb-true, leb-false, not-true}
+use Rattle.std.proofs.Common.{◌≡◌, ℕ, zero, suc, ◌+◌, ◌-◌, ◌*◌, ◌/◌, ◌%◌, ◌^◌, ◌<◌, ◌≤◌, Bool, true, false, not, eqb, leb, ◌↔◌, sym, refl, ap, ◌∙◌, true≢false, lt_of_lt_of_le, mul_assoc, zero-mul, arith, pow_pos, pow_mono, pow-add, shl_lt, leb-false, leb-true}
+use native.Mathlib.Nat.{mul-div-mul_right, mul-mod_left}
+use lib.Pow.{shl-shr}
+use borrow.Author.Tests.{not-true}
 use Rattle.channel.specs.Sheet.{names_above}
 use Rattle.channel.specs.Assignment.{allows}
 use Rattle.channel.proofs.Sets.{allowed-column, names_above_exactly}

@@ -1,10 +1,6 @@
 -- Nets that are read from a side's list fit two bytes.
 -- Assumes nothing.
-use Prim.Native.Nat.{ℕ, zero, suc, ◌+◌, ◌-◌, ◌<◌}
-use mathlib.Core.List.{List, [], ◌∷◌}
-use mathlib.Core.Bool.{Bool, true, false, cond}
-use lib.ListN.{length, get_or}
-use lib.Dec.{leb}
+use Rattle.std.proofs.Common.{ℕ, zero, suc, ◌+◌, ◌-◌, ◌<◌, Bool, true, false, cond, leb, List, [], ◌∷◌, length, get_or}
 use Rattle.little.proofs.Laws.{little-below}
 use Rattle.modules.specs.declared.Pin.{Pin}
 use Rattle.modules.specs.Modules.{Module}

@@ -1,11 +1,6 @@
 -- A side of modules has a terminal for each pin.
 -- Assumes nothing.
-use Prim.Native.Nat.{ℕ, suc}
-use mathlib.Core.Path.{◌≡◌, refl, ◌∙◌, ap}
-use mathlib.Core.List.{List, [], ◌∷◌}
-use mathlib.Core.Bool.{Bool, false}
-use native.Mathlib.Omega.{arith}
-use lib.ListN.{length, length-append}
+use Rattle.std.proofs.Common.{◌≡◌, ℕ, suc, Bool, false, List, [], ◌∷◌, length, refl, ap, ◌∙◌, arith, length-append}
 use Rattle.modules.specs.declared.Pin.{Pin}
 use Rattle.modules.specs.Modules.{Module, pin_count, gap_of, inner_terminals, pin_terminals, module_terminals, terminals_behind}
 use Rattle.modules.specs.Modules.{side_terminals}

@@ -1,10 +1,8 @@
 -- Laws of the nets of a sheet's terminals, one after the other.
 -- Assumes nothing.
-use Rattle.std.proofs.Common.{◌≡◌, ℕ, zero, suc, ◌+◌, ◌-◌, ◌<◌, ◌≤◌, Bool, ◌||◌, List, ◌∷◌, ◌++◌, length, get_or, take, drop, set, replicate, sym, refl, ap, ◌∙◌, append-nil, add-one, arith, length-append, length-drop, drop_of_length-le, take_all, drop-cons, take-suc, take-suc-set, take_at}
-use mathlib.Core.List.{map-append}
+use Rattle.std.proofs.Common.{◌≡◌, ℕ, zero, suc, ◌+◌, ◌<◌, ◌≤◌, List, ◌∷◌, ◌++◌, length, get_or, take, drop, set, replicate, sym, refl, ap, ◌∙◌, add-one, arith, length-append, take_all, drop-cons, take-suc, take-suc-set}
 use lib.ListN.{length-map, get_or-map}
 use Rattle.channel.specs.Sheet.{Terminal, no_terminal}
-use Rattle.channel.specs.Density.{any}
 use Rattle.channel.specs.Cut.{nets}
 use Rattle.terminal.specs.declared.Record.{Record}
 use Rattle.terminal.specs.Terminal.{record_of}
@@ -19,10 +17,6 @@ pub get_or-zeros : (n i : ℕ) → ◌≡◌ {A = ℕ} (get_or (replicate n 0) i
 get_or-zeros zero i = refl
 get_or-zeros (suc n) zero = refl
 get_or-zeros (suc n) (suc i) = get_or-zeros n i
-
--- whether a number is among those that are left
-pub any-more : (f : ℕ → Bool) (ns : List ℕ) (i : ℕ) → i < length ns → any f (drop i ns) ≡ (f (get_or ns i 0) || any f (drop (i + 1) ns))
-any-more f ns i h = rw (drop-next ns i 0 h)
 
 -- the nets of a section: one more is stored, and at last all are
 module _ (part ns : List ℕ) (i : ℕ) (so_far : take i ns ≡ take i (nets (terminals_in part))) where
@@ -42,17 +36,6 @@ module _ (part ns : List ℕ) (i : ℕ) (so_far : take i ns ≡ take i (nets (te
 -- the nets of two lists of terminals, one behind the other
 pub length-nets : (ts us : List Terminal) → length (nets (ts ++ us)) ≡ length ts + length us
 length-nets ts us = length-map (ts ++ us) (λ (t : Terminal). t.net) ∙ length-append ts us
-
--- a list whose first p places and whose other places are filled with them
-pub nets-both :
-    (ts us : List Terminal) (xs first second : List ℕ) (p : ℕ) → p ≡ length ts → first ≡ nets ts → second ≡ nets us
-    → let ys : List ℕ = first ++ drop p xs in
-    take p ys ++ (second ++ drop (length ys - p) (drop p ys)) ≡ nets (ts ++ us)
-nets-both ts us xs first second p size e g =
-    let ys : List ℕ = first ++ drop p xs in
-    let fills : length first ≡ p = ap length e ∙ length-map ts (λ (t : Terminal). t.net) ∙ sym size in
-    let none : length (drop p ys) ≤ length ys - p = rw length-drop (omega arith) in
-    rw (take_at first (drop p xs) p fills, drop_of_length-le (drop p ys) none, append-nil, e, g, map-append)
 
 -- stored in front of others, as many as there are terminals
 pub nets-front :

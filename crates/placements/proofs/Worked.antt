@@ -1,9 +1,6 @@
 -- The two modules of docs/FORMAT.md, computed from the definitions: their bytes, their terminals, and their only placement on 5 columns.
 -- Assumes nothing.
-use Prim.Native.Nat.{ℕ}
-use mathlib.Core.Path.{◌≡◌, refl}
-use mathlib.Core.List.{List, [], ◌∷◌}
-use mathlib.Core.Bool.{true, false}
+use Rattle.std.proofs.Common.{◌≡◌, ℕ, true, false, List, [], ◌∷◌, refl}
 use Rattle.little.specs.Little.{little}
 use Rattle.modules.specs.Modules.{Module, side_terminals}
 use Rattle.modules.specs.Bytes.{pin_at, head_in, modules_at, modules_in}

@@ -1,11 +1,11 @@
 -- The list of the nets' places, filled from the front: a net's are put in where it stands last.
 -- Assumes nothing.
-use Rattle.std.proofs.Common.{ℕ, suc, ◌+◌, ◌-◌, ◌≤◌, ◌<◌, ◌≡◌, refl, sym, ap, ◌∙◌, List, [], ◌∷◌, ◌++◌, true, false, eqb, length, get_or, take, drop, set, arith, append_assoc, append-nil, add-one, drop-cons, length-append, length-drop, le_refl, take-append-drop, drop_of_length-le, length-take-le, take_all, drop-drop}
-use Rattle.std.proofs.lemmas.List.{take_more_set, drop-set-lt}
+use Rattle.std.proofs.Common.{◌≡◌, ℕ, suc, ◌+◌, ◌-◌, ◌<◌, ◌≤◌, true, false, eqb, List, [], ◌∷◌, ◌++◌, length, get_or, take, drop, set, sym, refl, ap, ◌∙◌, append_assoc, le_refl, add-one, arith, length-append, length-drop, take_all, drop-cons, drop-drop, drop-set-lt}
+use Rattle.std.proofs.lemmas.List.{take_more_set}
 use Rattle.channel.specs.Density.{any, distinct}
 use Rattle.channel.proofs.Spans.{length-distinct}
 use Rattle.places.specs.declared.NetPlaces.{NetPlaces}
-use Rattle.places.specs.Places.{places_of, places_list, AsksPlaces, Listed}
+use Rattle.places.specs.Places.{places_of, places_list, Listed}
 
 pub length_places : (tops bottoms ns : List ℕ) → length (places_list tops bottoms ns) ≡ length ns
 length_places tops bottoms [] = refl
@@ -49,15 +49,6 @@ module _ (tops bottoms ns : List ℕ) (old now : List NetPlaces) (m k : ℕ) (he
             ∙ rw (← drop-drop 1 k now, ← drop-drop 1 k old, so.rest);
       }
 
--- behind the last net nothing is left
-pub listed_all :
-    (tops bottoms ns : List ℕ) (old now : List NetPlaces) (m k : ℕ) → length ns ≤ m → ListedTo tops bottoms ns old now m k
-    → take k now ≡ places_list tops bottoms (distinct ns)
-listed_all tops bottoms ns old now m k h so =
-    sym (append-nil (take k now))
-    ∙ ap (λ (ms : List ℕ). take k now ++ places_list tops bottoms (distinct ms)) (sym (drop_of_length-le ns h))
-    ∙ so.places
-
 -- a part that goes to the end of a list
 pub part_rest : (ns : List ℕ) (a : ℕ) → take (length ns - a) (drop a ns) ≡ drop a ns
 part_rest ns a = take_all (length ns - a) (drop a ns) (rw length-drop (le_refl (length ns - a)))
@@ -74,14 +65,3 @@ listed_length tops bottoms places listed =
       listed.top,
       listed.bottom,
     )
-
--- the list of the places of all nets, with the two sides as parts of the list of nets
-pub sides_listed : (ns : List ℕ) (p : ℕ) (xs : List NetPlaces) → AsksPlaces ns p
-    → xs ≡ places_list (take p ns) (drop p ns) (distinct ns)
-    → Listed (take p ns) (take (length ns - p) (drop p ns)) xs
-sides_listed ns p xs two e =
-    rw (part_rest ns p) (record {
-      top = rw (length-take-le p ns two.split) two.top;
-      bottom = rw length-drop (omega (arith, two.bottom));
-      places = e ∙ ap (λ (ms : List ℕ). places_list (take p ns) (drop p ns) (distinct ms)) (sym (take-append-drop p ns));
-    })

@@ -1,6 +1,6 @@
 -- The first and last place of a net on one side say which stretches of the side it stands in, or reaches by leaving.
 -- Assumes nothing.
-use Rattle.std.proofs.Common.{ℕ, zero, suc, ◌+◌, ◌-◌, ◌≤◌, ◌<◌, min, max, ◌≡◌, refl, sym, ap, List, [], ◌∷◌, Bool, true, false, ◌&&◌, ◌||◌, arith, add-one, length, get_or, take, drop, drop_of_length-le, drop-cons, leb, ltb, eqb, leb-true, leb-false, le-leb, ltb-true, ltb-false, lt-ltb, le-ltb}
+use Rattle.std.proofs.Common.{ℕ, zero, suc, ◌-◌, ◌<◌, min, max, ◌≡◌, refl, sym, List, [], ◌∷◌, Bool, true, false, ◌&&◌, ◌||◌, arith, take, drop, leb, ltb, eqb, leb-true, leb-false, le-leb, ltb-true, ltb-false, lt-ltb, le-ltb}
 use mathlib.Core.Bool.{or_assoc, or-false, and-true, and-false}
 use native.Mathlib.Nat.{sub-zero}
 use lib.Seq.{take-nil, drop-nil}
@@ -10,14 +10,6 @@ use Rattle.kind.proofs.Starts.{left_start_lem, right_start_lem}
 use Rattle.channel.specs.Cut.{has, right_of}
 use Rattle.places.specs.declared.Ends.{Ends}
 use Rattle.places.specs.Places.{reached, ends_from, start_of, ends_of}
-
--- a scan for the ends of a net
-pub ends_at : (e : Ends) (n : ℕ) (ns : List ℕ) (i : ℕ) → i < length ns
-    → ends_from e n i (drop i ns) ≡ ends_from (reached (eqb (get_or ns i 0) n) e (i + 1)) n (i + 1) (drop (i + 1) ns)
-ends_at e n ns i h = rw (add-one, drop-cons ns i 0)
-
-pub ends_done : (e : Ends) (n : ℕ) (ns : List ℕ) (i : ℕ) → length ns ≤ i → ends_from e n i (drop i ns) ≡ e
-ends_done e n ns i h = ap (ends_from e n i) (drop_of_length-le ns h)
 
 -- a pin more at place k: the first place is at or left of c if the old one was, or if the pin is the net's and stands there
 first_more : (b : Bool) (e : Ends) (k c : ℕ) → leb (reached b e k).first c ≡ (leb e.first c || (b && leb k c))

@@ -1,20 +1,15 @@
 -- Words that place the pins still to be placed: what they say of their first letter and of the rest, and that `reach` knows of them.
 -- Assumes nothing.
-use Prim.Native.Nat.{ℕ, suc, pred, max, ◌≤◌, ◌<◌}
-use native.Mathlib.Omega.{arith}
-use mathlib.Core.Path.{◌≡◌, refl, ap, ◌∙◌}
-use mathlib.Core.List.{List, [], ◌∷◌}
-use mathlib.Core.Bool.{Bool, true, false, not, cond, ◌||◌, false≢true, or-true, and-eq-true_iff}
-use lib.ListN.{length}
-use lib.Dec.{eqb}
-use borrow.Author.Tests.{ne_eqb}
+use Rattle.std.proofs.Common.{◌≡◌, ℕ, suc, pred, ◌<◌, ◌≤◌, max, Bool, true, false, cond, not, ◌||◌, eqb, List, [], ◌∷◌, length, refl, ap, ◌∙◌, arith, ne_eqb}
+use Rattle.std.proofs.lemmas.Bool.{and_from}
+use mathlib.Core.Bool.{false≢true, or-true, and-eq-true_iff}
 use Rattle.channel.specs.Sheet.{Terminal, Sheet}
 use Rattle.channel.specs.Assignment.{allows}
 use Rattle.channel.specs.Word.{Letter, has_top, has_bottom}
 use Rattle.channel.specs.Cut.{count, before, occupied, first_load, word_load}
 use Rattle.reach.specs.Reach.{terminal_number, near, stands, reach}
 use Rattle.reach.specs.Greedy.{next}
-use Rattle.reach.proofs.Reaches.{both_hold, reach-none}
+use Rattle.reach.proofs.Reaches.{reach-none}
 use Rattle.reach.proofs.Rightmost.{more, last_in, OneSide, step-reach, Back}
 use Rattle.reach.proofs.Standing.{last_of, last_of-below, standing}
 
@@ -108,7 +103,7 @@ side-more :
     → SideDone ts f (before (f a) i) (last_in (f a) c x) w → SideDone ts f i x (a ∷ w)
 side-more ts f c i k t x a w p room o n size r =
     let (pins, here, joined) = go (f a) p o.fits n r in
-    record { pins = pins; room = room; stand = both_hold _ _ r.stand here; joined = joined }
+    record { pins = pins; room = room; stand = and_from _ _ r.stand here; joined = joined }
   where
     go : (h : Bool) → i ≡ more h k → (h ≡ true → stands ts (suc k) t (suc c) ≡ true) → next ts i (last_in h c t) x ≡ true
         → SideDone ts f (before h i) (last_in h c x) w

@@ -1,14 +1,8 @@
 -- The least bound under which all pins can be placed, with the word that the walk writes under it, is the best assignment of a sheet.
 -- Assumes nothing.
-use Prim.Native.Nat.{ℕ, ◌+◌, max, ◌≤◌, ◌<◌}
-use native.Mathlib.Nat.{le_refl}
-use native.Mathlib.Omega.{arith}
-use mathlib.Core.Path.{◌≡◌, refl, sym, ap, ap₂, ◌∙◌}
-use mathlib.Core.List.{List, [], ◌∷◌, ◌++◌, map}
-use mathlib.Core.Bool.{Bool, true, false, cond, ◌&&◌, ◌||◌, true≢false, false≢true, and-eq-true_iff}
-use lib.ListN.{length, length-map, length-append}
-use lib.Dec.{leb, ltb, eqb}
-use borrow.Author.Tests.{leb-true, leb-false, ltb-true, eqb-true}
+use Rattle.std.proofs.Common.{◌≡◌, ℕ, ◌+◌, ◌<◌, ◌≤◌, max, Bool, true, false, cond, ◌&&◌, ◌||◌, eqb, ltb, leb, List, [], ◌∷◌, ◌++◌, map, length, sym, refl, ap, ◌∙◌, ap₂, true≢false, le_refl, arith, length-append, ltb-true, eqb-true, leb-false, leb-true}
+use mathlib.Core.Bool.{false≢true, and-eq-true_iff}
+use lib.ListN.{length-map}
 use Rattle.channel.specs.Sheet.{Terminal, Sheet, Sound}
 use Rattle.channel.specs.Assignment.{is_assignment}
 use Rattle.channel.specs.Density.{weight_of, nets_of, density, most_density}

@@ -1,17 +1,9 @@
 -- The laws of `reach`: an equation for each way in which the column furthest right can be occupied.
 -- Assumes nothing.
-use Prim.Native.Nat.{ℕ, zero, suc, ◌<◌}
-use native.Mathlib.Omega.{arith}
-use mathlib.Core.Path.{◌≡◌, refl}
-use mathlib.Core.Bool.{Bool, true, false, ◌&&◌, and-false}
-use lib.Dec.{eqb}
-use borrow.Author.Tests.{lt-ltb, le-ltb, ne_eqb}
+use Rattle.std.proofs.Common.{◌≡◌, ℕ, zero, suc, ◌<◌, false, ◌&&◌, eqb, refl, arith, le-ltb, lt-ltb, ne_eqb}
+use mathlib.Core.Bool.{and-false}
 use Rattle.channel.specs.Sheet.{Sheet}
 use Rattle.reach.specs.Reach.{by_top, by_bottom, by_both, bottoms_only, with_tops, reach}
-
--- a test of two parts, from its parts
-pub both_hold : (a b : Bool) → a ≡ true → b ≡ true → (a && b) ≡ true
-both_hold a b e f = rw (e, f)
 
 module _ (s : Sheet) (d : ℕ) where
   -- with no pins at all, both last columns are 0

@@ -1,12 +1,8 @@
 -- One column more: how the places of the last pins change where one more letter stands to the right, and the induction that gives.
 -- Assumes nothing.
-use Prim.Native.Nat.{ℕ, zero, suc, ◌≤◌, ◌<◌}
-use native.Mathlib.Omega.{arith}
-use mathlib.Core.Path.{◌≡◌, refl, sym, ◌∙◌}
-use mathlib.Core.List.{List}
-use mathlib.Core.Bool.{Bool, true, false, cond, ◌&&◌, and-false, false≢true, and-eq-true_iff}
-use lib.Dec.{leb}
-use borrow.Author.Tests.{leb-true, leb-false, le-leb, ne_eqb}
+use Rattle.std.proofs.Common.{◌≡◌, ℕ, zero, suc, ◌<◌, ◌≤◌, Bool, true, false, cond, ◌&&◌, leb, List, sym, refl, ◌∙◌, arith, ne_eqb, le-leb, leb-false, leb-true}
+use Rattle.std.proofs.lemmas.Bool.{and_from}
+use mathlib.Core.Bool.{and-false, false≢true, and-eq-true_iff}
 use Rattle.channel.specs.Below.{any_below}
 use Rattle.channel.proofs.Below.{any_below-from, any_below_to}
 use Rattle.channel.specs.Sheet.{Terminal, Sheet}
@@ -14,7 +10,7 @@ use Rattle.channel.specs.Word.{Letter, has_top, has_bottom}
 use Rattle.channel.specs.Word.Letter.{empty, top, bottom, both}
 use Rattle.channel.specs.Cut.{load, occupied}
 use Rattle.reach.specs.Reach.{stands, reach}
-use Rattle.reach.proofs.Reaches.{both_hold, reach-none, reach-top, reach-bottom, reach-both}
+use Rattle.reach.proofs.Reaches.{reach-none, reach-top, reach-bottom, reach-both}
 use Rattle.reach.proofs.Reaches.{reach_no_top, reach_no_bottom, reach_only_tops, reach_only_bottoms}
 
 -- how many pins a side has, where it has k and, if h, one more
@@ -45,21 +41,21 @@ module _ (s : Sheet) (d : ℕ) where
   step-reach c empty k l t b r = r.rest
   step-reach c top k l t b r =
       rw (reach-top s d k l (suc c) b (omega arith))
-      (both_hold _ _ (le-leb _ d (r.within refl))
+      (and_from _ _ (le-leb _ d (r.within refl))
       (any_below-from (suc c) (λ (t : ℕ). stands s.top (suc k) t (suc c) && reach s d k l t b) t (omega arith)
-      (both_hold _ _ (r.top.fits refl) r.rest)))
+      (and_from _ _ (r.top.fits refl) r.rest)))
   step-reach c bottom k l t b r =
       rw (reach-bottom s d k l t (suc c) (omega arith))
-      (both_hold _ _ (le-leb _ d (r.within refl))
+      (and_from _ _ (le-leb _ d (r.within refl))
       (any_below-from (suc c) (λ (b : ℕ). stands s.bottom (suc l) b (suc c) && reach s d k l t b) b (omega arith)
-      (both_hold _ _ (r.bottom.fits refl) r.rest)))
+      (and_from _ _ (r.bottom.fits refl) r.rest)))
   step-reach c both k l t b r =
       let pair : ℕ → ℕ → Bool = λ t b. stands s.top (suc k) t (suc c) && (stands s.bottom (suc l) b (suc c) && reach s d k l t b) in
       rw (reach-both s d k l (suc c))
-      (both_hold _ _ (le-leb _ d (r.within refl))
+      (and_from _ _ (le-leb _ d (r.within refl))
       (any_below-from (suc c) (λ (t : ℕ). any_below (suc c) (pair t)) t (omega arith)
       (any_below-from (suc c) (pair t) b (omega arith)
-      (both_hold _ _ (r.top.fits refl) (both_hold _ _ (r.bottom.fits refl) r.rest)))))
+      (and_from _ _ (r.top.fits refl) (and_from _ _ (r.bottom.fits refl) r.rest)))))
 
 -- a side's last pin stands in column c + 1 if h, and else in one of the columns up to c
 abbrev pub At : Bool → ℕ → ℕ → Type 0

@@ -1,13 +1,8 @@
 -- The word that the walk writes places all pins within the bound, and no word that does so comes before it.
 -- Assumes nothing.
-use Prim.Native.Nat.{ℕ, zero, suc, pred, ◌≤◌}
-use native.Mathlib.Omega.{arith}
-use mathlib.Core.Path.{◌≡◌, refl, sym, ap, ◌∙◌}
-use mathlib.Core.List.{List, [], ◌∷◌}
-use mathlib.Core.Bool.{Bool, true, false, ◌&&◌, ◌||◌, false≢true, and-eq-true_iff}
-use lib.ListN.{length}
-use lib.Dec.{ltb, eqb}
-use borrow.Author.Tests.{ltb-false, eq-eqb}
+use Rattle.std.proofs.Common.{◌≡◌, ℕ, zero, suc, pred, ◌≤◌, Bool, true, false, ◌&&◌, ◌||◌, eqb, ltb, List, [], ◌∷◌, length, sym, refl, ap, ◌∙◌, arith, ltb-false, eq-eqb}
+use Rattle.std.proofs.lemmas.Bool.{and_from}
+use mathlib.Core.Bool.{false≢true, and-eq-true_iff}
 use Rattle.channel.proofs.Below.{any_below-from, any_below_to}
 use Rattle.channel.specs.Sheet.{Terminal, Sheet}
 use Rattle.channel.specs.Word.{Letter, rank, has_top, has_bottom, no_later}
@@ -15,7 +10,6 @@ use Rattle.channel.specs.Word.Letter.{empty, top, bottom, both}
 use Rattle.channel.specs.Cut.{before}
 use Rattle.reach.specs.Reach.{reach}
 use Rattle.reach.specs.Greedy.{next, last_at, smallest_of, letter_fits, choice, walk_word_from}
-use Rattle.reach.proofs.Reaches.{both_hold}
 use Rattle.reach.proofs.Rightmost.{more, last_in, OneSide, At, Back, step_back, at_column, letter_with}
 use Rattle.reach.proofs.Bounds.{Held, reach-held}
 use Rattle.reach.proofs.Standing.{last_of, last_of-below}
@@ -46,7 +40,7 @@ module _ (s : Sheet) (d : ℕ) where
   unfolding letter_fits
   letter_fits-from c i j x y a r =
       last_at-from (has_top a) c _ r.u r.at_top
-      (last_at-from (has_bottom a) c _ r.v r.at_bottom (both_hold _ _ r.reached (both_hold _ _ r.next_top r.next_bottom)))
+      (last_at-from (has_bottom a) c _ r.v r.at_bottom (and_from _ _ r.reached (and_from _ _ r.next_top r.next_bottom)))
 
   letter_fits_to : (c i j x y : ℕ) (a : Letter) → letter_fits s d c i j x y a ≡ true → Placed s d (has_top a) (has_bottom a) c i j x y
   unfolding letter_fits
@@ -202,7 +196,7 @@ no_later-step a b v w h e = decide (ltb (rank a) (rank b)) refl
     decide true q = refl
     decide false q =
         let same : rank a ≡ rank b = omega (arith, ltb-false (rank a) (rank b) q) in
-        both_hold (eqb (rank a) (rank b)) (no_later (v a) w) (eq-eqb (rank a) (rank b) same) (rw (← rank_same a b same) at e)
+        and_from (eqb (rank a) (rank b)) (no_later (v a) w) (eq-eqb (rank a) (rank b) same) (rw (← rank_same a b same) at e)
 
 module _ (s : Sheet) (d : ℕ) where
   -- the first letter of a word that places the pins may stand in its column

@@ -1,13 +1,8 @@
 -- A side's columns fit exactly when, letter by letter from the left, each pin may stand where it does.
 -- Assumes nothing.
-use Prim.Native.Nat.{ℕ, suc, ◌≤◌}
-use native.Mathlib.Omega.{arith}
-use mathlib.Core.Path.{◌≡◌, refl}
-use mathlib.Core.List.{List, [], ◌∷◌, ◌++◌, append-nil}
-use mathlib.Core.Bool.{Bool, true, false, not, cond, ◌&&◌, ◌||◌, and-true, and_assoc}
-use lib.ListN.{length, take, get_or, length-take}
-use lib.Seq.{take-suc, take-length}
-use lib.Dec.{leb}
+use Rattle.std.proofs.Common.{◌≡◌, ℕ, suc, ◌≤◌, Bool, true, false, cond, not, ◌&&◌, ◌||◌, leb, List, [], ◌∷◌, ◌++◌, length, get_or, take, refl, append-nil, arith, length-take, take-suc}
+use mathlib.Core.Bool.{and-true, and_assoc}
+use lib.Seq.{take-length}
 use borrow.Author.Tests.{lt-leb}
 use Rattle.channel.specs.Sheet.{Terminal, no_terminal}
 use Rattle.channel.specs.Assignment.{allows, in_range, later_fit, side_fits}

@@ -1,13 +1,8 @@
 -- The whole channel: a word of all pins within a bound is a word that fits with no load above it; the walk writes
 -- one, and the first of them.
 -- Assumes nothing.
-use Prim.Native.Nat.{ℕ, ◌+◌, ◌≤◌}
-use native.Mathlib.Nat.{le_refl}
-use mathlib.Core.Path.{◌≡◌, refl, sym, ◌∙◌}
-use mathlib.Core.List.{List}
-use mathlib.Core.Bool.{Bool, true}
-use lib.ListN.{length, length-append}
-use borrow.Author.Tests.{eq-eqb}
+use Rattle.std.proofs.Common.{◌≡◌, ℕ, ◌+◌, ◌≤◌, Bool, true, List, length, sym, refl, ◌∙◌, le_refl, length-append, eq-eqb}
+use Rattle.std.proofs.lemmas.Bool.{and_from}
 use Rattle.channel.specs.Sheet.{Terminal, Sheet}
 use Rattle.channel.specs.Assignment.{side_fits, fits}
 use Rattle.channel.specs.Density.{density}
@@ -20,7 +15,6 @@ use Rattle.channel.proofs.Sides.{side-count}
 use Rattle.reach.specs.Reach.{feasible}
 use Rattle.reach.specs.Greedy.{next, walk_word}
 use Rattle.reach.proofs.Bounds.{feasible-from, feasible_some}
-use Rattle.reach.proofs.Reaches.{both_hold}
 use Rattle.reach.proofs.Standing.{last_of, last_of-below, side-standing}
 use Rattle.reach.proofs.Completed.{SideDone, Done, standing-reach}
 use Rattle.reach.proofs.Smallest.{walk_done, walk_first}
@@ -55,7 +49,7 @@ module _ (s : Sheet) (d : ℕ) where
   -- and back
   pub whole-fits : (w : List Letter) → Whole s d w → word_fits s w ≡ true
   unfolding fits
-  whole-fits w r = both_hold _ _ (side_fits_lem s.top has_top w r.top) (side_fits_lem s.bottom has_bottom w r.bottom)
+  whole-fits w r = and_from _ _ (side_fits_lem s.top has_top w r.top) (side_fits_lem s.bottom has_bottom w r.bottom)
 
   -- its density is its load
   pub whole-density : (w : List Letter) → Whole s d w → density s (columns_of w) ≡ word_load s w

@@ -1,12 +1,7 @@
 -- The steps of a reader find the terminals of a sound sheet, top then bottom, each once, and then the end; over a refused sheet
 -- they find the end at once.
 -- Assumes nothing.
-use Prim.Native.Nat.{ℕ, zero, suc, ◌+◌, ◌≤◌}
-use mathlib.Core.Path.{◌≡◌, refl, sym, ◌∙◌, ap}
-use mathlib.Core.List.{List, [], ◌∷◌, ◌++◌}
-use Rattle.std.proofs.Common.{Option, None}
-use native.Mathlib.Omega.{arith}
-use lib.ListN.{length, length-append, take}
+use Rattle.std.proofs.Common.{◌≡◌, ℕ, zero, suc, ◌+◌, ◌≤◌, List, [], ◌∷◌, ◌++◌, length, take, None, Option, sym, refl, ap, ◌∙◌, arith, length-append}
 use Rattle.channel.specs.Sheet.{Sheet}
 use Rattle.channel.specs.declared.Side.TheVariants.{Top, Bottom}
 use Rattle.soundness.specs.Read.{Read, read}

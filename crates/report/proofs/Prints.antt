@@ -1,14 +1,7 @@
 -- Why the text is the one to print: a search that found an assignment found the best one, and the columns are its columns.
 -- Assumes nothing.
-use Rattle.std.proofs.Common.{Result, Ok, Err}
-use Prim.Native.Nat.{ℕ, ◌+◌, ◌≤◌, ◌<◌}
-use mathlib.Core.Path.{◌≡◌, sym, ◌∙◌, ap}
-use mathlib.Core.List.{List, ◌++◌}
-use native.Mathlib.Omega.{arith}
-use native.Mathlib.Nat.{zero-add}
-use lib.ListN.{length, take, drop}
+use Rattle.std.proofs.Common.{◌≡◌, ℕ, ◌+◌, ◌<◌, ◌≤◌, List, ◌++◌, length, take, drop, Ok, Err, Result, sym, ap, ◌∙◌, zero-add, arith, le-ltb, lt-ltb}
 use lib.Seq.{sets-eq}
-use borrow.Author.Tests.{lt-ltb, le-ltb}
 use Rattle.soundness.specs.Read.{sheet_of}
 use Rattle.sheet.specs.Parts.{shape_of}
 use Rattle.sheet.proofs.Laws.{shape-read}

@@ -1,12 +1,6 @@
 -- The lines of a sheet: none of a refused one, and of a sound one those of its two sides, one behind the other.
 -- Assumes nothing.
-use Rattle.std.proofs.Common.{Ok, Err}
-use Prim.Native.Nat.{ℕ, ◌+◌, ◌-◌, ◌≤◌}
-use mathlib.Core.Path.{◌≡◌, refl, sym, ◌∙◌, ap}
-use mathlib.Core.List.{List, [], ◌++◌}
-use native.Mathlib.Omega.{arith}
-use lib.ListN.{length, take, drop}
-use lib.Seq.{take-add, length-take-le}
+use Rattle.std.proofs.Common.{◌≡◌, ℕ, ◌+◌, ◌-◌, ◌≤◌, List, [], ◌++◌, length, take, drop, Ok, Err, sym, refl, ap, ◌∙◌, arith, length-take-le, take-add}
 use Rattle.channel.specs.Sheet.{Sheet}
 use Rattle.refusals.specs.declared.Refusal.{Refusal}
 use Rattle.channel.specs.declared.Side.TheVariants.{Top, Bottom}

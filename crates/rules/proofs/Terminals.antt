@@ -55,10 +55,6 @@ module _ (f : ℕ → Bool) where
   collected_left e w so_far fails =
       collected_more e w w so_far (λ k h. rw (fails, and-false, or-false))
 
-  -- all numbers
-  pub collected_all : (e w : ℕ) → 64 ≤ e → Collected f e w → (k : ℕ) → k < 64 → bit_of w k ≡ f k
-  collected_all e w l all k h = all k h ∙ rw (lt-ltb k e (omega arith))
-
 -- a number added on both sides of a test
 leb-add : (t a b : ℕ) → leb (t + a) (t + b) ≡ leb a b
 leb-add zero a b = rw (zero-add a, zero-add b)

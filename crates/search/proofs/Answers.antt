@@ -1,12 +1,6 @@
 -- Why the search keeps its promise: each way out of it, from what its calls answered.
 -- Assumes nothing.
-use Rattle.std.proofs.Common.{Result, Ok, Err}
-use Prim.Native.Nat.{ℕ, ◌≤◌, ◌<◌}
-use mathlib.Core.Path.{◌≡◌, refl, sym, ◌∙◌, ap}
-use mathlib.Core.List.{List}
-use native.Mathlib.Omega.{arith}
-use lib.ListN.{length}
-use borrow.Author.Tests.{lt-ltb, le-ltb}
+use Rattle.std.proofs.Common.{◌≡◌, ℕ, ◌<◌, ◌≤◌, List, length, Some, None, Ok, Err, Option, Result, sym, refl, ap, ◌∙◌, arith, le-ltb, lt-ltb}
 use Rattle.channel.specs.Sheet.{Sheet}
 use Rattle.channel.specs.Best.{Found, best}
 use Rattle.channel.specs.Best.Found.{none, found}
@@ -22,7 +16,6 @@ use Rattle.soundness.proofs.Laws.{read-sound}
 use Rattle.sheet.proofs.Laws.{opened_refused, Opens, opens, same_sheet, same_shape}
 use Rattle.searched.specs.declared.SearchRefusal.{SearchRefusal}
 use Rattle.searched.specs.declared.SearchRefusal.TheVariants as searched
-use Rattle.std.specs.Prelude.{Option, Some, None}
 use Rattle.search.specs.Answer.{pins_needed, cells_needed, answer_as, answer_in, answer_if, searched_of}
 use Rattle.search.specs.Answer.{columns_if, columns_after, work_if, work_after, Searches}
 use Rattle.solve.specs.Buffers.{with_columns, cleared}

@@ -1,22 +1,12 @@
 -- What a search that found an assignment found: the best one of a sound sheet, with its columns in front of the column buffer.
 -- Assumes nothing.
-use Rattle.std.proofs.Common.{Result, Ok, Err}
-use Prim.Native.Nat.{ℕ, ◌+◌}
-use mathlib.Core.Path.{◌≡◌, refl, sym, ◌∙◌, ap, ap₂, subst}
-use mathlib.Core.List.{List, ◌++◌}
-use mathlib.Core.Bool.{Bool, true, false, cond}
-use native.Mathlib.Omega.{arith}
-use lib.ListN.{length, take, drop, length-append, take-append-drop}
-use lib.Seq.{take_at, drop_at}
-use lib.Dec.{ltb}
-use borrow.Author.Tests.{le-ltb, ltb-false}
+use Rattle.std.proofs.Common.{◌≡◌, ℕ, ◌+◌, Bool, true, false, cond, ltb, List, ◌++◌, length, take, drop, Ok, Err, Result, sym, refl, ap, ◌∙◌, subst, ap₂, arith, length-append, take-append-drop, take_at, drop_at, ltb-false, le-ltb}
 use Rattle.channel.specs.Sheet.{Sheet}
 use Rattle.channel.specs.Assignment.{is_assignment, top_columns, bottom_columns}
 use Rattle.channel.specs.Best.{Found, best, IsBest, Answers}
 use Rattle.channel.specs.Best.Found.{none, found}
 use Rattle.channel.proofs.Best.{best_answers}
 use Rattle.channel.proofs.Assignments.{fits_lengths}
-use Rattle.refusals.proofs.Refused.{number_some}
 use Rattle.soundness.specs.Check.{check_of}
 use Rattle.soundness.specs.Read.{read, sheet_of}
 use Rattle.soundness.specs.Read.Read.{sound}
@@ -115,11 +105,3 @@ module _ (b : List ℕ) (k m d : ℕ) where
   pub finds : searched_of b k m ≡ Ok d → Finds
   unfolding searched_of
   finds = by_check (check_of b) refl
-
--- an answer with the number 0 is a density
-pub zero_found : (r : Result ℕ SearchRefusal) → number_of r ≡ 0 → r ≡ Ok (density_of r)
-zero_found (Ok d) e = refl
-zero_found (Err (searched.Sheet why)) e = absurd (number_some why e)
-zero_found (Err searched.Columns) e = absurd (omega arith)
-zero_found (Err searched.Cells) e = absurd (omega arith)
-zero_found (Err searched.NoAssignment) e = absurd (omega arith)

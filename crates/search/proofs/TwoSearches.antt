@@ -1,12 +1,6 @@
 -- Demand 3 of the search: what two searches return.
 -- Assumes nothing.
-use Rattle.std.proofs.Common.{Result}
-use Prim.Native.Nat.{ℕ}
-use mathlib.Core.Path.{◌≡◌, refl, sym, ◌∙◌, subst}
-use mathlib.Core.List.{List}
-use mathlib.Core.Bool.{true, true≢false}
-use native.Mathlib.Omega.{arith}
-use lib.ListN.{length}
+use Rattle.std.proofs.Common.{◌≡◌, ℕ, true, List, length, Result, sym, refl, ◌∙◌, subst, true≢false, arith}
 use Rattle.channel.specs.Sheet.{Sheet, Sound}
 use Rattle.channel.specs.Assignment.{is_assignment}
 use Rattle.channel.specs.Best.{Found, best, Answers}

@@ -1,7 +1,7 @@
 -- Why the inner search comes to the best assignment of the two sections' sheet.
 -- Assumes nothing.
-use Rattle.std.proofs.Common.{ℕ, zero, suc, ◌+◌, ◌-◌, ◌*◌, ◌≤◌, ◌<◌, ◌≡◌, refl, sym, ◌∙◌, ap, subst, List, ◌++◌, Bool, true, false, cond, ◌⊎◌, inl, inr, ⊎_elim, arith, mul_assoc, mul-le-mul, mul-le-mul_right, length, drop, replicate, length-append, length-drop, eqb, Option, Some, None}
-use lib.ListN.{length-replicate, length-map}
+use Rattle.std.proofs.Common.{ℕ, zero, suc, ◌+◌, ◌-◌, ◌*◌, ◌≤◌, ◌<◌, ◌≡◌, refl, sym, ◌∙◌, ap, subst, List, ◌++◌, Bool, true, false, cond, ◌⊎◌, inl, inr, ⊎_elim, arith, mul_assoc, mul-le-mul_right, length, drop, eqb, Option, Some, None}
+use lib.ListN.{length-map}
 use borrow.Author.Tests.{eqb-false}
 use Rattle.channel.specs.Sheet.{Sheet, Sound}
 use Rattle.channel.specs.Density.{most_density}
@@ -27,8 +27,8 @@ use Rattle.pass.specs.declared.Plan.{Plan}
 use Rattle.rules.specs.Sides.{SideRules}
 use Rattle.pass.specs.Pass.{AsksPass, feasible_in, Rising, Placed, table_end}
 use Rattle.agreement.specs.Ready.{SheetLoads, Ready}
-use Rattle.solve.specs.Buffers.{with_columns, cleared}
-use Rattle.solve.specs.Solved.{plan_of, AsksSolve, outcome_of, Worked, Solved}
+use Rattle.solve.specs.Buffers.{with_columns}
+use Rattle.solve.specs.Solved.{plan_of, AsksSolve, outcome_of, Worked}
 use Rattle.walk.specs.Walking.{AsksWalk}
 use Rattle.agreement.proofs.Feasible.{feasible-in, feasible_rising}
 use Rattle.agreement.proofs.Walked.{walk_columns_lem}
@@ -204,30 +204,3 @@ module _ (m : Sections) (columns work : List ℕ) (asked : AsksSolve m (length c
           kept = placed.table.kept;
           behind = subst (λ (k : ℕ). drop k work' ≡ drop k work) end placed.table.behind;
         }
-
--- cleared cells keep their number
-pub cleared-length : (n : ℕ) (old new : List ℕ) → n ≤ length old → new ≡ cleared n old → length new ≡ length old
-cleared-length n old new h e = ap length e ∙ simp (length-append, length-replicate, length-drop) (omega arith)
-
--- the cells that were worked in, cleared
-pub worked_solved :
-    (m : Sections) (columns columns' work mid work' : List ℕ) (r : Option ℕ)
-    → Worked m columns columns' work mid r → work' ≡ cleared m.shape.cells mid
-    → Solved m columns columns' work work' r
-worked_solved m columns columns' work mid work' r worked clears =
-    record {
-      outcome = worked.outcome;
-      written = worked.written;
-      cells = clears ∙ ap (λ (rest : List ℕ). replicate m.shape.cells 0 ++ rest) worked.behind;
-    }
-
--- the sizes of the table are small
-pub plane_small : (l : ℕ) → l ≤ 64 → (l + 1) * (l + 1) ≤ 65 * 65
-plane_small l h =
-    let g : l + 1 ≤ 65 = omega arith in
-    mul-le-mul g g
-
-pub planes_small : (l q : ℕ) → l ≤ 64 → q ≤ l → (q + 1) * ((l + 1) * (l + 1)) ≤ 65 * (65 * 65)
-planes_small l q h k =
-    let g : q + 1 ≤ 65 = omega arith in
-    mul-le-mul g (plane_small l h)

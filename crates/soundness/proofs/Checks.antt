@@ -1,15 +1,7 @@
 -- Laws of the sheet check: one terminal more, and what a sound sheet's trailer and sides say.
 -- Assumes nothing.
-use Rattle.std.proofs.Common.{Result, Ok, Err}
-use Prim.Native.Nat.{ℕ, ◌+◌, ◌<◌}
-use mathlib.Core.Path.{◌≡◌, sym, ◌∙◌, ap}
-use mathlib.Core.List.{List}
-use mathlib.Core.Bool.{Bool, true, false}
-use native.Mathlib.Numerals.{add-one}
-use lib.ListN.{length, get_or, drop}
-use lib.Seq.{drop-cons}
+use Rattle.std.proofs.Common.{◌≡◌, ℕ, ◌+◌, ◌<◌, Bool, true, false, List, length, get_or, drop, Ok, ap, add-one, drop-cons}
 use Rattle.channel.specs.Sheet.{Terminal, no_terminal}
-use Rattle.refusals.specs.declared.Refusal.{Refusal}
 use Rattle.refusals.specs.Refusals.{◌or_else◌}
 use Rattle.refusals.proofs.Refused.{or_else_sound}
 use Rattle.trailer.specs.declared.Trailer.{Trailer}
@@ -17,7 +9,6 @@ use Rattle.trailer.specs.Trailer.{trailer_of, TrailerRead}
 use Rattle.channel.specs.declared.Side.{Side}
 use Rattle.channel.specs.declared.Side.TheVariants.{Top, Bottom}
 use Rattle.format.specs.Format.{part_of}
-use Rattle.format.specs.Parts.{bytes_of, terminals_in}
 use Rattle.form.specs.Form.{form_of}
 use Rattle.form.proofs.Forms.{Formed, formed}
 use Rattle.soundness.specs.Check.{terminal_check, side_check, terminals_of, check_of}

@@ -1,9 +1,6 @@
 -- Sheet A at four lengths makes a loosened and a lengthened pair.
 -- Assumes nothing.
-use Prim.Native.Nat.{ℕ, zero, suc, ◌≤◌}
-use mathlib.Core.Path.{◌≡◌, refl, sym, ◌∙◌}
-use mathlib.Core.Bool.{true, false, true≢false}
-use native.Mathlib.Omega.{arith}
+use Rattle.std.proofs.Common.{◌≡◌, ℕ, zero, suc, ◌≤◌, true, false, sym, refl, ◌∙◌, true≢false, arith}
 use Rattle.channel.specs.Assignment.{allows, fits}
 use Rattle.kind.specs.Kinds.{kind_of}
 use Rattle.channel.specs.Density.{crosses, nets_of, column_density, density}

@@ -1,6 +1,6 @@
 -- The starred results of document 01 hold: each is computed from the definitions.
 -- Assumes nothing.
-use mathlib.Core.Path.{refl}
+use Rattle.std.proofs.Common.{refl}
 use Rattle.channel.specs.Assignment.{fits, top_columns, bottom_columns, is_assignment}
 use Rattle.channel.specs.Distance.{amount}
 use Rattle.kind.specs.Kinds.{kind_of}

@@ -1,6 +1,7 @@
 -- Laws of the steps from a set: one after the other, by all numbers from some number on, and by a run.
 -- Assumes nothing.
 use Rattle.std.proofs.Common.{ℕ, zero, suc, ◌+◌, ◌-◌, ◌*◌, ◌/◌, ◌%◌, ◌^◌, ◌≤◌, ◌<◌, ◌≡◌, refl, sym, ◌∙◌, ap, ap₂, Bool, true, false, ◌&&◌, ◌||◌, ◌⊎◌, inl, inr, arith, leb, ltb, bit_or, leb-true, leb-false, le-leb, lt-ltb, ltb-true, ltb-false, eq-eqb, ne_eqb}
+use Rattle.std.proofs.lemmas.Bool.{or_cases}
 use mathlib.Core.Bool.{and-false, or-true, or_assoc, and-eq-true_iff}
 use Rattle.channel.specs.Below.{any_below}
 use Rattle.channel.proofs.Below.{any_below-from, any_below_to, any_below-none}
@@ -67,10 +68,6 @@ stepped-open w by low a n h there none all = by-test (leb (low + a) n) refl
             rw (none y (omega arith)) (and-false (bit_of by (n - y)))
         short y l false t = rw (all (n - y) (omega arith), t)
 
-one_true : (a b : Bool) → (a || b) ≡ true → (a ≡ true) ⊎ (b ≡ true)
-one_true true b e = inl refl
-one_true false b e = inr e
-
 -- what is less than a width above a number of w
 module _ (w : ℕ) where
   abbrev near : ℕ → ℕ → ℕ → Bool
@@ -97,7 +94,7 @@ module _ (w : ℕ) where
   covered_more a b k h = same_test _ _ there back
     where
       there : (covered w a k || (leb b k && covered w a (k - b))) ≡ true → covered w (a + b) k ≡ true
-      there e = by_part (one_true (covered w a k) (leb b k && covered w a (k - b)) e)
+      there e = by_part (or_cases (covered w a k) (leb b k && covered w a (k - b)) e)
         where
           by_part : (covered w a k ≡ true) ⊎ ((leb b k && covered w a (k - b)) ≡ true) → covered w (a + b) k ≡ true
           by_part (inl t) = let (y, l, m, g) = covered_to a k t in covered-from (a + b) k y l (omega arith) g

@@ -37,9 +37,6 @@ module _ (m k : ℕ) (z : ℤ) (held : to_z w16 m ≡ z) (small : mag z < 512) (
   less-held = to_z-of_z w16 _ less-fits ∙ exact
 
 module _ {before column : ℕ} (b : before < 256) (c : column < 256) where
-  pub distance-fits : SFits w16 (to_z w16 column -ℤ to_z w16 before)
-  distance-fits = less-fits column before (pos column) (byte column c) (omega arith) b
-
   -- the word that the distance is kept in
   abbrev word : ℕ
   word = of_z w16 (to_z w16 column -ℤ to_z w16 before)
@@ -49,9 +46,6 @@ module _ {before column : ℕ} (b : before < 256) (c : column < 256) where
 
   small : mag (distance before column) < 512
   small = omega (arith, size_minus (pos column) before)
-
-  pub excess_fits : {bound : ℕ} → bound < 256 → SFits w16 (to_z w16 word -ℤ to_z w16 bound)
-  excess_fits {bound} f = less-fits word bound (distance before column) held small f
 
   module _ {least greatest : ℕ} (l : least < 256) (g : greatest < 256) where
     short-read : lt_z (to_z w16 word) (to_z w16 least) ≡ lt_z (distance before column) (pos least)

@@ -1,11 +1,7 @@
--- Laws of a number's digits: one digit, one digit more, and how many there are.
+-- Laws of a number's digits: one digit more, and how many there are.
 -- Assumes nothing.
-use Rattle.std.proofs.Common.{◌≡◌, ℕ, zero, suc, ◌+◌, ◌-◌, ◌/◌, ◌%◌, ◌<◌, ◌≤◌, Bool, true, false, cond, ltb, [], ◌∷◌, ◌++◌, length, refl, arith, length-append, le-ltb, lt-ltb}
+use Rattle.std.proofs.Common.{◌≡◌, ℕ, zero, suc, ◌+◌, ◌-◌, ◌/◌, ◌%◌, ◌≤◌, Bool, true, false, cond, ltb, [], ◌∷◌, ◌++◌, length, refl, arith, length-append, le-ltb}
 use Rattle.text.specs.Digits.{digits}
-
-pub digits_one : (k n : ℕ) → (k ≡ 0 → ⊥) → n < 10 → (48 + n) ∷ [] ≡ digits k n
-digits_one zero n h g = absurd (h refl)
-digits_one (suc k) n h g = rw (lt-ltb _ _ g)
 
 pub digits_more : (k n : ℕ) → (k ≡ 0 → ⊥) → 10 ≤ n → digits (k - 1) (n / 10) ++ ((48 + n % 10) ∷ []) ≡ digits k n
 digits_more zero n h g = absurd (h refl)

@@ -1,17 +1,14 @@
 -- Laws of texts written one after the other.
 -- Assumes nothing.
-use Rattle.std.proofs.Common.{◌≡◌, ℕ, suc, ◌+◌, ◌-◌, ◌/◌, ◌%◌, ◌<◌, ◌≤◌, List, [], ◌∷◌, ◌++◌, length, set, sym, refl, ap, ◌∙◌, subst, add-zero, arith, length-append}
+use Rattle.std.proofs.Common.{◌≡◌, ℕ, suc, ◌+◌, ◌-◌, ◌/◌, ◌%◌, ◌≤◌, List, [], ◌∷◌, ◌++◌, length, set, sym, refl, ap, ◌∙◌, subst, add-zero, arith, length-append}
 use lib.Seq.{sets, length-sets}
 use Rattle.text.specs.Digits.{digits}
 use Rattle.text.specs.Writing.{Wrote, Writes}
 use Rattle.text.specs.declared.Writer.{Writer}
-use Rattle.text.proofs.Numbers.{digits_one, digits_more}
+use Rattle.text.proofs.Numbers.{digits_more}
 
 pub wrote_nothing : (old : List ℕ) (at : ℕ) → Wrote old at [] old at
 wrote_nothing old at = record { bytes = refl; place = sym (add-zero at) }
-
-pub wrote_byte : (old : List ℕ) (at byte : ℕ) → Wrote old at (byte ∷ []) (set old at byte) (at + 1)
-wrote_byte old at byte = record { bytes = refl; place = refl }
 
 pub kept : {old text new : List ℕ} {at end : ℕ} → Wrote old at text new end → length new ≡ length old
 kept {old} {text} {new} {at} w = ap length w.bytes ∙ length-sets old at text
@@ -44,11 +41,8 @@ behind v w = record { wrote = after v.wrote w.wrote; buffer = w.buffer ∙ v.buf
 pub same_written : {a b : Writer} {t u : List ℕ} → t ≡ u → Writes a b t → Writes a b u
 same_written e w = record { wrote = same_text e w.wrote; buffer = w.buffer; room = w.room }
 
--- a number's only digit, and its last digit behind the others
+-- a number's last digit behind the others
 module _ {old : List ℕ} {at : ℕ} {new : List ℕ} {end : ℕ} (n most : ℕ) (digit : ℕ) (some : most ≡ 0 → ⊥) where
-  pub wrote_digit : n < 10 → digit ≡ 48 + n → Wrote old at (digit ∷ []) new end → Wrote old at (digits most n) new end
-  wrote_digit h e w = same_text (ap (λ (d : ℕ). d ∷ []) e ∙ digits_one most n some h) w
-
   pub wrote_digits :
       {mid : List ℕ} {place : ℕ} → 10 ≤ n → digit ≡ 48 + n % 10 → Wrote old at (digits (most - 1) (n / 10)) mid place
       → Wrote mid place (digit ∷ []) new end → Wrote old at (digits most n) new end

@@ -1,4 +1,4 @@
-use native.Mathlib.Omega.{arith}
+use Rattle.std.proofs.Common.{arith}
 use Rattle.text.proofs.Writes.{behind, same_written}
 use Rattle.lines.proofs.Laws.{next-line, all_lines}
 use Rattle.lines.proofs.put_side.Goals as goal

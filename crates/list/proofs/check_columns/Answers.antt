@@ -1,11 +1,6 @@
 -- `list::check_columns` meets its contract: each answer is that of the first of the tests that refuses, else the assignment.
 -- Assumes nothing.
-use Rattle.std.proofs.Common.{Err}
-use mathlib.Core.Path.{sym, ◌∙◌, ap}
-use lib.IntN.{ℤ}
-use mir.Syntax.{w16}
-use mir.Val.{of_z}
-use mir.Facts.{to_z-of_z}
+use Rattle.std.proofs.Common.{ℤ, Err, sym, ap, ◌∙◌, to_z-of_z, w16, of_z}
 use Rattle.refusals.specs.declared.ListRefusal.TheVariants.{Distance}
 use Rattle.terminal.proofs.Laws.{zero_bits}
 use Rattle.list.proofs.Columns.{top-refused, bottom-refused, distance-refused, listed}

@@ -1,11 +1,6 @@
 -- `module_sheet::put_sheet` meets its contract: the top section, the bottom section behind it, then the trailer.
 -- Assumes nothing.
-use Rattle.std.proofs.Common.{rules}
-use Prim.Native.Nat.{ℕ, ◌*◌}
-use mathlib.Core.Path.{◌≡◌, sym, ◌∙◌, ap, ap₂}
-use mathlib.Core.List.{List, ◌++◌}
-use native.Mathlib.Omega.{arith}
-use lib.ListN.{length}
+use Rattle.std.proofs.Common.{◌≡◌, ℕ, ◌*◌, List, ◌++◌, length, sym, ap, ◌∙◌, ap₂, arith, rules}
 use Rattle.text.proofs.Writes.{behind, same_written}
 use Rattle.trailer.specs.Trailer.{CP}
 use Rattle.format.specs.Format.{record_size}

@@ -1,7 +1,6 @@
 -- `modules::head_in` meets its contract: the two tests decide whether the module ends in the list.
 -- Assumes nothing.
-use mathlib.Core.Path.{◌∙◌}
-use native.Mathlib.Omega.{arith}
+use Rattle.std.proofs.Common.{◌∙◌, arith}
 use Rattle.modules.proofs.Lists.{head_there, head_cut}
 use Rattle.modules.proofs.head_in.Goals as goal
 

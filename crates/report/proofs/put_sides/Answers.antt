@@ -1,8 +1,6 @@
 -- `report::put_sides` meets its contract: the lines of the two parts are those of the sheet.
 -- Assumes nothing.
-use mathlib.Core.Path.{sym}
-use native.Mathlib.Omega.{arith}
-use lib.Seq.{length-take-le}
+use Rattle.std.proofs.Common.{sym, arith, length-take-le}
 use Rattle.text.proofs.Writes.{behind, same_written}
 use Rattle.report.proofs.Sides.{pins-count, side-lines}
 use Rattle.report.proofs.put_sides.Goals as goal

@@ -1,6 +1,6 @@
 -- `cursor::Cursor::step` meets its contract: the shape says on which side the next terminal stands, or that there is none.
 -- Assumes nothing.
-use mathlib.Core.Path.{◌∙◌}
+use Rattle.std.proofs.Common.{◌∙◌}
 use Rattle.soundness.specs.Read.{read}
 use Rattle.sheet.specs.Parts.{shape_of, entry_at}
 use Rattle.cursor.specs.Visits.{step_of}

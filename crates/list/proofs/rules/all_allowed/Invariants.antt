@@ -1,8 +1,7 @@
 -- `list::all_allowed` meets its contract. The loop's invariant: what is still to be said of the side is said by the places that are
 -- left.
 -- Assumes nothing.
-use mathlib.Core.Path.{◌≡◌}
-use lib.ListN.{drop}
+use Rattle.std.proofs.Common.{◌≡◌, drop}
 use Rattle.format.specs.Parts.{terminals_in}
 use Rattle.list.specs.Answer.{side_allowed}
 use Rattle.list.proofs.rules.all_allowed.Given as goal

@@ -1,9 +1,6 @@
 -- `sheet::layout_of` meets its contract: the trailer's numbers, which are within their limits.
 -- Assumes nothing.
-use Rattle.std.proofs.Common.{Ok}
-use Prim.Native.Nat.{ℕ}
-use mathlib.Core.Path.{◌≡◌}
-use mathlib.Core.List.{List}
+use Rattle.std.proofs.Common.{◌≡◌, ℕ, List, Ok}
 use Rattle.trailer.specs.declared.Trailer.{Trailer}
 use Rattle.soundness.specs.Check.{check_of}
 use Rattle.trailer.specs.Trailer.{trailer_of, TrailerRead}

@@ -1,8 +1,6 @@
 -- `sheet::record_at` meets its contract: a record of a side is the record of its section.
 -- Assumes nothing.
-use mathlib.Core.Path.{◌∙◌, ap}
-use mathlib.Core.List.{List}
-use Prim.Native.Nat.{ℕ}
+use Rattle.std.proofs.Common.{ℕ, List, ap, ◌∙◌}
 use Rattle.sheet.specs.Parts.{entry_in}
 use Rattle.sheet.proofs.Places.{entry-section}
 use Rattle.sheet.proofs.parts.record_at.Goals as goal

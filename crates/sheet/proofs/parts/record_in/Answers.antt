@@ -1,8 +1,6 @@
 -- `sheet::record_in` meets its contract: a place of the section is a record of it, and any other is nothing.
 -- Assumes nothing.
-use Rattle.std.proofs.Common.{Some}
-use mathlib.Core.Path.{◌∙◌, ap}
-use native.Mathlib.Omega.{arith}
+use Rattle.std.proofs.Common.{Some, ap, ◌∙◌, arith}
 use Rattle.sheet.specs.Parts.{entry_in}
 use Rattle.sheet.proofs.Places.{entry_found, entry-nothing}
 use Rattle.sheet.proofs.parts.record_in.Goals as goal

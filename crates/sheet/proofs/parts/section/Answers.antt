@@ -1,8 +1,6 @@
 -- `sheet::section` meets its contract: the answer of the check picks the case.
 -- Assumes nothing.
-use Prim.Native.Nat.{ℕ, ◌+◌}
-use mathlib.Core.Path.{◌≡◌, sym, ◌∙◌, ap}
-use native.Mathlib.Omega.{arith}
+use Rattle.std.proofs.Common.{◌≡◌, ℕ, ◌+◌, sym, ap, ◌∙◌, arith}
 use Rattle.format.specs.Format.{of_side}
 use Rattle.sheet.specs.declared.Layout.{Layout}
 use Rattle.sheet.specs.Parts.{layout_of}

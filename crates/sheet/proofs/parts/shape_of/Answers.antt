@@ -1,6 +1,6 @@
 -- `sheet::shape_of` meets its contract: the answer of the check picks the case.
 -- Assumes nothing.
-use mathlib.Core.Path.{sym, ◌∙◌, ap}
+use Rattle.std.proofs.Common.{sym, ap, ◌∙◌}
 use Rattle.sheet.specs.declared.Layout.{Layout}
 use Rattle.sheet.proofs.Places.{opened_sound, opened_refused, layout_shape, refused-shape}
 use Rattle.sheet.proofs.parts.shape_of.Goals as goal
