@@ -1,6 +1,6 @@
 -- `solve::find` meets its contract: the rules and loads are those of the sections, and what the passes come to is the best assignment.
 -- Assumes nothing.
-use Rattle.std.proofs.Common.{◌∙◌, inl, inr, arith, length}
+use Rattle.std.proofs.Common.{inl, inr, arith, length}
 use Rattle.format.specs.Parts.{terminals_in}
 use Rattle.rules.proofs.Reading.{rules_kept}
 use Rattle.solve.proofs.Solving.{loads_sheet, crowded_worked, place-asked, placed-worked}
