@@ -1,7 +1,7 @@
 // One word of the table, from the planes before it. `table` has the table.
 #![tactic(auto)]
 
-ghost use Rattle.std.specs.Prelude.{ℕ, ◌+◌, ◌-◌, ◌≤◌, ◌<◌, ◌≡◌, length, leb};
+ghost use Rattle.std.specs.Prelude.{ℕ, ◌+◌, ◌-◌, ◌<◌, ◌≡◌};
 ghost use Rattle.bits.specs.Bits.{bit_of};
 ghost use Rattle.rows.specs.Held.{held};
 ghost use Rattle.entry.specs.Entry.{start_part, top_part, bottom_part, both_part, entry};

@@ -1,7 +1,7 @@
 // Passes over the table: whether all pins can be placed under a bound, and the least such bound.
 #![tactic(auto)]
 
-ghost use Rattle.std.specs.Prelude.{◌+◌, ◌*◌, ◌≤◌, ◌<◌, ◌≡◌, true, false, length};
+ghost use Rattle.std.specs.Prelude.{◌+◌, ◌≤◌, ◌<◌, ◌≡◌, true, false, length};
 ghost use Rattle.channel.specs.Density.{most_density};
 ghost use Rattle.table.specs.Planes.{Filled};
 ghost use Rattle.pass.specs.Pass.{AsksPass, feasible_in, Rising, Tried, Bounded, Placed, table_end};
