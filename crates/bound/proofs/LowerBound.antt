@@ -1,7 +1,7 @@
 -- Laws of the lower bound: how it comes from those before it, why no bound below it places the pins (a place that is reached under a
 -- bound was reached from the planes before it, and its load is within the bound), and the row of it that the code keeps.
 -- Assumes nothing.
-use Rattle.std.proofs.Common.{ℕ, zero, suc, ◌+◌, ◌-◌, ◌≤◌, ◌<◌, min, max, ◌≡◌, refl, sym, ◌∙◌, ap, List, Bool, true, false, ◌&&◌, ◌⊎◌, inl, inr, arith, length, get_or, set, length-set, get_or-set_same, get_or-set_other, leb, ltb, eqb, ltb-true, ltb-false, le-ltb, eq-eqb, ne_eqb, eqb-true}
+use Rattle.std.proofs.Common.{ℕ, zero, suc, ◌+◌, ◌-◌, ◌≤◌, ◌<◌, min, max, ◌≡◌, refl, ◌∙◌, ap, List, Bool, true, false, ◌&&◌, ◌⊎◌, inl, inr, arith, length, get_or, set, length-set, get_or-set_same, get_or-set_other, leb, ltb, eqb, ltb-true, ltb-false, le-ltb, eq-eqb, ne_eqb, eqb-true}
 use mathlib.Core.Bool.{and-false}
 use borrow.Author.Tests.{lt-leb, eqb-false}
 use Rattle.channel.specs.Below.{any_below}
@@ -10,7 +10,6 @@ use Rattle.bits.specs.Bits.{bit_of}
 use Rattle.arrays.specs.Rules.{allowed_at, range_at}
 use Rattle.arrays.specs.Loads.{load_at}
 use Rattle.entry.specs.Entry.{top_part, bottom_part, both_part, entry, alone, bottoms_only, with_tops, cell}
-use Rattle.entry.proofs.Parts.{pair-heavy}
 use Rattle.bound.specs.LowerBound.{top_last, bottom_last, both_last, lowest, bottoms_lowest, tops_lowest, lower_bound}
 
 one_less : (n : ℕ) → suc n - 1 ≡ n
@@ -96,7 +95,8 @@ module _ (rules loads : List ℕ) (bound : ℕ) where
 
     both-none :
         (diagonal : ℕ → ℕ → Bool) → (bound < load_at loads i j 2) ⊎ Empty diagonal → both_part rules loads bound i j diagonal x y ≡ false
-    both-none diagonal (inl h) = sym (pair-heavy rules loads bound i j x y diagonal (lt-leb (load_at loads i j 2) bound h))
+    both-none diagonal (inl h) =
+        rw (lt-leb (load_at loads i j 2) bound h, and-false (eqb (y + j) (x + i)), and-false (ltb 0 j)) (and-false (ltb 0 i))
     both-none diagonal (inr h) =
         rw (
           any_below-none (suc y)

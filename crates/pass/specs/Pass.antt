@@ -48,12 +48,15 @@ pub record Bounded (rules loads : List ℕ) (n : Plan) (old new : List ℕ) (r :
   pub behind : drop (table_end n) new ≡ drop (table_end n) old
   pub gaps : SameGaps n.grid old new
 
+-- the columns of the walk over a filled table
+abbrev pub columns_in : List ℕ → List ℕ → Plan → List ℕ → List ℕ
+columns_in work rules n columns =
+    walk_columns work rules n.grid n.p n.q n.l (record { c = n.l; i = n.p; j = n.q; top = 0; bottom = 0 }) columns
+
 -- the least bound with the columns of its walk, or nothing and the columns as they were
 abbrev pub Came : List ℕ → List ℕ → Plan → List ℕ → List ℕ → List ℕ → Option ℕ → Type 0
 Came rules loads n new columns columns' (Some d) =
-    Least (feasible_in rules loads n) d
-    × (columns'
-    ≡ walk_columns new rules n.grid n.p n.q n.l (record { c = n.l; i = n.p; j = n.q; top = 0; bottom = 0 }) columns)
+    Least (feasible_in rules loads n) d × (columns' ≡ columns_in new rules n columns)
 Came rules loads n new columns columns' None = (feasible_in rules loads n most_density ≡ false) × (columns' ≡ columns)
 
 -- the bound of the last pass: the least one, or the most that a density can be

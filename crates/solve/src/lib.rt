@@ -7,7 +7,7 @@ ghost use Rattle.solve.specs.Solved.{plan_of, AsksSolve, Worked, Solved};
 use arrays::{LOADS, LoadTable, RULES, RuleTable};
 use channel::Side;
 use entry::Grid;
-use pass::{Plan, place};
+use pass::{Pass, Plan};
 use rules::read_rules;
 use sheet::Sections;
 
@@ -54,7 +54,12 @@ fn find(sections: Sections, columns: &mut [u8], work: &mut [u16]) -> Option<u8>
     read_rules(bottom, &mut rules, Side::Bottom);
     let mut loads = LoadTable { bytes: [0; LOADS] };
     load::read_loads(top, bottom, &mut loads);
-    place(work, &rules, &loads, plan, columns)
+    let pass = Pass {
+        rules: &rules,
+        loads: &loads,
+        plan,
+    };
+    pass.place(work, columns)
 }
 
 // Writes the columns of the best assignment, if there is one, and leaves the cells that this takes 0.

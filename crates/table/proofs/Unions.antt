@@ -1,51 +1,12 @@
--- Laws of the loops that collect numbers.
+-- Laws of the loop that asks rows.
 -- Assumes nothing.
-use Rattle.std.proofs.Common.{ℕ, suc, ◌+◌, ◌^◌, ◌≤◌, ◌<◌, ◌≡◌, refl, sym, ◌∙◌, ap, Bool, true, false, ◌&&◌, ◌||◌, arith, add-one, leb, ltb, eqb, ltb-true, ltb-false, lt-ltb, le-ltb, le-leb, eqb-true}
+use Rattle.std.proofs.Common.{ℕ, suc, ◌+◌, ◌^◌, ◌≤◌, ◌<◌, ◌≡◌, sym, ◌∙◌, ap, Bool, true, false, ◌&&◌, arith, add-one, leb, le-leb}
 use mathlib.Core.Bool.{and-false}
 use Rattle.channel.specs.Below.{any_below}
 use Rattle.channel.proofs.Below.{any_below-from, any_below-none}
 use Rattle.bits.specs.Bits.{bit_of, in_word}
 use Rattle.bits.proofs.Laws.{bit_zero, some_bit, word_none, word-from}
-use borrow.Author.Tests.{lt-leb, eqb-false}
-
--- the numbers k up to y of which f holds, where y is taken, and where it is not
-module _ (f : ℕ → Bool) (y k : ℕ) where
-  pub taken_one : f y ≡ true → (eqb k y || (ltb k y && f k)) ≡ (ltb k (y + 1) && f k)
-  taken_one e = by-test (eqb k y) (ltb k y) refl refl
-    where
-      by-test : (a b : Bool) → eqb k y ≡ a → ltb k y ≡ b → (a || (b && f k)) ≡ (ltb k (y + 1) && f k)
-      by-test true b s t =
-          let same = eqb-true k y s in
-          rw (lt-ltb k (y + 1) (omega arith), ap f same, e)
-      by-test false true s t =
-          let less = ltb-true k y t in
-          rw (lt-ltb k (y + 1) (omega arith))
-      by-test false false s t =
-          let more = ltb-false k y t in
-          rw (le-ltb k (y + 1) (omega (arith, eqb-false k y s)))
-
-  pub left_one : f y ≡ false → (ltb k y && f k) ≡ (ltb k (y + 1) && f k)
-  left_one e = by-test (eqb k y) (ltb k y) refl refl
-    where
-      by-test : (a b : Bool) → eqb k y ≡ a → ltb k y ≡ b → (b && f k) ≡ (ltb k (y + 1) && f k)
-      by-test true true s t = absurd (omega (arith, eqb-true k y s, ltb-true k y t))
-      by-test true false s t =
-          let same = eqb-true k y s in
-          rw (lt-ltb k (y + 1) (omega arith), ap f same, e)
-      by-test false true s t =
-          let less = ltb-true k y t in
-          rw (lt-ltb k (y + 1) (omega arith))
-      by-test false false s t =
-          let more = ltb-false k y t in
-          rw (le-ltb k (y + 1) (omega (arith, eqb-false k y s)))
-
-  -- all of them are passed
-  pub passed : (high : ℕ) → y ≡ high + 1 → (ltb k y && f k) ≡ (leb k high && f k)
-  passed high e = by-test (ltb k y) refl
-    where
-      by-test : (b : Bool) → ltb k y ≡ b → (b && f k) ≡ (leb k high && f k)
-      by-test true t = let less = ltb-true k y t in rw (le-leb k high (omega arith))
-      by-test false t = let more = ltb-false k y t in rw (lt-leb k high (omega arith))
+use borrow.Author.Tests.{lt-leb}
 
 -- the rows m from low on of which f holds and in which some number of g m stands: none before low
 pub none_before :

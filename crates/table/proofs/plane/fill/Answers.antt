@@ -4,8 +4,8 @@ use Rattle.table.proofs.plane.fill.Goals as goal
 
 pub loop-i-preserved : goal.loop-i-preserved
 loop-i-preserved c =
-    let a = c.args in
+    let g = c.args.filling.grid in
     let l = c.loop-i in (
-      ap (λ (k : ℕ). k + a.grid.stride) l.invariant.0 ∙ row_next a.grid l.i,
+      ap (λ (k : ℕ). k + g.stride) l.invariant.0 ∙ row_next g l.i,
       filled_then l.invariant.1 c.fill_row.ensures (omega arith),
     )

@@ -6,4 +6,5 @@ use Rattle.table.proofs.plane.fill.Given as goal
 
 abbrev pub invariant-loop-i : goal.invariant-loop-i
 invariant-loop-i l =
-    (l.at ≡ l.i * l.grid.stride) × Filled l.rules.words l.loads.bytes l.bound l.grid l.i 0 l.at l.initial.work l.work
+    let f = l.filling in
+    (l.at ≡ l.i * f.grid.stride) × Filled f.rules.now.words f.loads.now.bytes f.bound f.grid l.i 0 l.at l.initial.work l.work

@@ -5,4 +5,5 @@ use Rattle.table.proofs.plane.fill_plane.Given as goal
 
 abbrev pub invariant-loop-x : goal.invariant-loop-x
 invariant-loop-x l =
-    Rows l.rules.words l.loads.bytes l.bound l.grid l.i l.j l.at l.x l.initial.work l.work
+    let f = l.filling in
+    Rows f.rules.now.words f.loads.now.bytes f.bound f.grid l.i l.j l.at l.x l.initial.work l.work

@@ -6,4 +6,5 @@ use Rattle.table.proofs.plane.fill_row.Given as goal
 
 abbrev pub invariant-loop-j : goal.invariant-loop-j
 invariant-loop-j l =
-    (l.here ≡ base_of l.grid l.i l.j) × Filled l.rules.words l.loads.bytes l.bound l.grid l.i l.j l.here l.initial.work l.work
+    let f = l.filling in
+    (l.here ≡ base_of f.grid l.i l.j) × Filled f.rules.now.words f.loads.now.bytes f.bound f.grid l.i l.j l.here l.initial.work l.work

@@ -1,0 +1,7 @@
+-- `entry::Filling::top` meets its contract.
+-- Assumes nothing.
+use Rattle.std.proofs.Common.{arith, tests}
+use Rattle.entry.proofs.Filling.top.Goals as goal
+
+pub returns : goal.returns
+returns c = λ y h. grind (arith, tests)
