@@ -1,5 +1,4 @@
-pub mod Selected
-pub mod Scans
+pub mod Sorted
 pub mod Written
 pub mod Pins
 pub mod Keys
