@@ -37,3 +37,30 @@ pub fn occurs(net: u16, nets: &[u16], from: usize) -> bool
     }
     found
 }
+
+// The nets of a list that are still to come: each once, where it occurs last.
+#[derive(Clone, Copy)]
+pub struct Distinct<'a> {
+    pub left: &'a [u16],
+}
+
+impl<'a> Iterator for Distinct<'a> {
+    ghost use Rattle.std.specs.Iterator.{YieldsFirst, item_count};
+    ghost use Rattle.nets.specs.Distinct.{nets_left};
+
+    type Item = u16;
+
+    ghost next_gives = { YieldsFirst nets_left };
+
+    ghost remaining = { item_count nets_left };
+
+    fn next(&mut self) -> Option<u16> {
+        while let Some((net, rest)) = self.left.split_first() {
+            self.left = rest;
+            if !occurs(*net, rest, 0) {
+                return Some(*net);
+            }
+        }
+        None
+    }
+}
