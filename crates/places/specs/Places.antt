@@ -1,6 +1,6 @@
 -- The first and last places of a net on each side, and the list of the nets with them.
 -- Assumes nothing.
-use Rattle.std.specs.Prelude.{ℕ, suc, ◌+◌, min, max, ◌≤◌, ◌≡◌, List, [], ◌∷◌, ◌++◌, Bool, true, false, length, take, drop, eqb}
+use Rattle.std.specs.Prelude.{ℕ, suc, ◌+◌, min, max, ◌≤◌, ◌≡◌, List, [], ◌∷◌, ◌++◌, Bool, true, false, length, eqb}
 use Rattle.kind.specs.Kinds.{kind_of, left_start, right_start}
 use Rattle.channel.specs.Density.{distinct}
 use Rattle.places.specs.declared.Ends.{Ends}
@@ -38,12 +38,6 @@ pub record AsksPlaces (ns : List ℕ) (p : ℕ) : Type 0 where
   pub top : p ≤ 64
   pub split : p ≤ length ns
   pub bottom : length ns ≤ p + 64
-
--- the places of all nets of a list, each once, put at the front: r of them; what is behind them is as it was
-pub record PlacesListed (tops bottoms ns : List ℕ) (old new : List NetPlaces) (r : ℕ) : Type 0 where
-  pub count : r ≤ length ns
-  pub places : take r new ≡ places_list tops bottoms (distinct ns)
-  pub rest : drop r new ≡ drop r old
 
 -- the places of each net of two sides, once
 pub record Listed (tops bottoms : List ℕ) (list : List NetPlaces) : Type 0 where

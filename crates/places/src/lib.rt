@@ -2,21 +2,23 @@
 #![tactic(auto)]
 
 ghost use Rattle.std.specs.Prelude.{◌≡◌, ◌≤◌, length, take, drop};
-ghost use Rattle.places.specs.Places.{reached, ends_of, places_of, AsksPlaces, PlacesListed};
+ghost use Rattle.channel.specs.Density.{distinct};
+ghost use Rattle.places.specs.Places.{reached, ends_of, places_of, AsksPlaces, places_list};
 
+use arrayvec::ArrayVec;
 use kind::Kind;
-use nets::occurs;
+use nets::Distinct;
 
 // The first and last place of a net on one side, from 1. A net that leaves at the left has first 0, one that leaves at the right last 255;
 // any other has 255 and 0 where it has no pin on the side.
-#[derive(Clone, Copy)]
+#[derive(Clone, Copy, Default)]
 pub struct Ends {
     pub first: u16,
     pub last: u16,
 }
 
 // A net with its ends on the two sides.
-#[derive(Clone, Copy)]
+#[derive(Clone, Copy, Default)]
 pub struct NetPlaces {
     pub net: u16,
     pub top: Ends,
@@ -63,18 +65,14 @@ fn places_of(tops: &[u16], bottoms: &[u16], net: u16) -> NetPlaces
     NetPlaces { net, top, bottom }
 }
 
-// Lists the places of all nets, each once, and gives how many nets there are.
-pub fn list_places(nets: &[u16], p: usize, places: &mut [NetPlaces]) -> usize
-    requires { AsksPlaces nets.now p × (length nets.now ≤ length places.old) }
-    ensures { PlacesListed (take p nets.now) (drop p nets.now) nets.now
-        places.old places.new result }
+// The places of all nets, each once.
+pub fn list_places(nets: &[u16], p: usize) -> ArrayVec<NetPlaces, 128>
+    requires { AsksPlaces nets.now p }
+    ensures { result.items ≡ places_list (take p nets.now) (drop p nets.now) (distinct nets.now) }
 {
-    let mut k = 0;
-    for (m, net) in nets.iter().enumerate() {
-        if !occurs(*net, nets, m + 1) {
-            places[k] = places_of(&nets[..p], &nets[p..], *net);
-            k += 1;
-        }
+    let mut places = ArrayVec::new();
+    for net in (Distinct { left: nets }) {
+        places.push(places_of(&nets[..p], &nets[p..], net));
     }
-    k
+    places
 }
