@@ -6,7 +6,7 @@ ghost use Rattle.std.specs.Prelude.{◌≡◌};
 ghost use Rattle.channel.specs.Distance.{amount};
 ghost use Rattle.soundness.specs.Check.{check_of};
 ghost use Rattle.sheet.specs.Parts.{shape_of};
-ghost use Rattle.cazdrob.specs.Host.{check_number, HostMeasures, HostSearches, HostNumbers, HostTracks, HostMakes};
+ghost use Rattle.cazdrob.specs.Host.{check_number, HostMeasures, HostSearches, HostTracks, HostMakes};
 
 use left_edge::Span;
 

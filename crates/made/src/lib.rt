@@ -1,7 +1,6 @@
 // The answer about two sides of modules, and its number by the refusal list.
 #![tactic(auto)]
 
-ghost use Rattle.std.specs.Prelude.{◌≡◌};
 ghost use Rattle.made.specs.Numbers.{module_number};
 
 use refusals::{Reason, Refusal};

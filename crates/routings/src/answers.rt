@@ -1,5 +1,4 @@
 // What is to be answered to a case and what the library answers, in one form.
-ghost use Rattle.std.specs.Prelude.{◌≤◌, length};
 
 use crate::trials::Case;
 use arrayvec::ArrayVec;

@@ -1,8 +1,6 @@
--- Laws of the sheet check: one terminal more, and what a sound sheet's trailer and sides say.
+-- Laws of the sheet check: what a sound sheet's trailer and sides say.
 -- Assumes nothing.
-use Rattle.std.proofs.Common.{◌≡◌, ℕ, ◌+◌, ◌<◌, Bool, true, false, List, length, get_or, drop, Ok, ap, add-one, drop-cons}
-use Rattle.channel.specs.Sheet.{Terminal, no_terminal}
-use Rattle.refusals.specs.Refusals.{◌or_else◌}
+use Rattle.std.proofs.Common.{◌≡◌, ℕ, true, List, Ok}
 use Rattle.refusals.proofs.Refused.{or_else_sound}
 use Rattle.trailer.specs.declared.Trailer.{Trailer}
 use Rattle.trailer.specs.Trailer.{trailer_of, TrailerRead}
@@ -11,14 +9,7 @@ use Rattle.channel.specs.declared.Side.TheVariants.{Top, Bottom}
 use Rattle.format.specs.Format.{part_of}
 use Rattle.form.specs.Form.{form_of}
 use Rattle.form.proofs.Forms.{Formed, formed}
-use Rattle.soundness.specs.Check.{terminal_check, side_check, terminals_of, check_of}
-
--- the check of the terminals that are left is that of the first, then of those behind it
-pub side-more :
-    (columns : ℕ) (is_first : Bool) (ts : List Terminal) (i : ℕ) → i < length ts
-    → side_check columns is_first (drop i ts)
-    ≡ (terminal_check columns is_first (get_or ts i no_terminal) or_else side_check columns false (drop (i + 1) ts))
-side-more columns is_first ts i h = rw (add-one i) (ap (side_check columns is_first) (drop-cons ts i no_terminal h))
+use Rattle.soundness.specs.Check.{side_check, terminals_of, check_of}
 
 -- a sound sheet is formed, and each of its sides is sound
 pub record Whole (b : List ℕ) : Type 0 where
