@@ -4,10 +4,10 @@
 ghost use Rattle.std.specs.Prelude.{◌≡◌, ℕ, ◌≤◌, ◌<◌, length, get_or, replicate};
 ghost use Rattle.channel.specs.Density.{weight, maximum_to, density};
 ghost use Rattle.sheet.specs.Sections.{Beside, sheet_held};
-ghost use Rattle.ends.specs.Ends.{pins_of};
+ghost use Rattle.ends.specs.Pins.{pins_in};
 ghost use Rattle.density.specs.Counted.{within, net_spans, Added, Small, counted_at};
 
-use ends::ends_of;
+use ends::PinList;
 use nets::{all_nets, occurs};
 use sheet::Sections;
 
@@ -25,30 +25,34 @@ pub fn list_density(sections: Sections, columns: &[u8]) -> u32
         sections.shape.top,
         &mut nets[..n],
     );
+    let pins = PinList {
+        nets: &nets[..n],
+        columns,
+    };
     let mut counts: [u16; 256] = [0; 256];
-    count_nets(&nets[..n], columns, &mut counts);
+    count_nets(pins, &mut counts);
     u32::from(greatest(&counts, l))
 }
 
 // Counts each net once, where it occurs last.
-fn count_nets(nets: &[u16], columns: &[u8], counts: &mut [u16])
-    requires { (length nets.now ≡ length columns.now) × (length nets.now ≤ 128) × (counts.old ≡ replicate 256 0) }
-    ensures { (c : ℕ) → get_or counts.new c 0 ≡ counted_at nets.now columns.now c }
+fn count_nets(pins: PinList, counts: &mut [u16])
+    requires { (length pins.nets.now ≤ 128) × (counts.old ≡ replicate 256 0) }
+    ensures { (c : ℕ) → get_or counts.new c 0 ≡ counted_at pins.entry.nets.now pins.entry.columns.now c }
 {
-    for (i, net) in nets.iter().enumerate() {
-        if !occurs(*net, nets, i + 1) {
-            count_net(*net, nets, columns, counts);
+    for (i, net) in pins.nets.iter().enumerate() {
+        if !occurs(*net, pins.nets, i + 1) {
+            count_net(*net, pins, counts);
         }
     }
 }
 
 // Adds one net to the columns that it crosses: from its left end to its right end, if they differ.
-fn count_net(net: u16, nets: &[u16], columns: &[u8], counts: &mut [u16])
-    requires { (length nets.now ≡ length columns.now) × (length counts.old ≡ 256) × Small counts.old }
-    ensures { Added (weight net) (λ (c : ℕ). net_spans (pins_of nets.now columns.now) c net)
+fn count_net(net: u16, pins: PinList, counts: &mut [u16])
+    requires { (length counts.old ≡ 256) × Small counts.old }
+    ensures { Added (weight net) (λ (c : ℕ). net_spans (pins_in pins.entry) c net)
         counts.old counts.new }
 {
-    let ends = ends_of(net, nets, columns);
+    let ends = pins.ends_of(net);
     if ends.left < ends.right {
         add_span(counts, ends.left as usize, ends.right as usize);
     }

@@ -1,8 +1,7 @@
 // How far each net reaches in a column list.
 #![tactic(auto)]
 
-ghost use Rattle.std.specs.Prelude.{◌≡◌, cond, length};
-ghost use Rattle.ends.specs.Ends.{pins_of, ends_of};
+ghost use Rattle.std.specs.Prelude.{◌≡◌, ◌<◌, ℕ, cond, length, get_or};
 
 use kind::Kind;
 
@@ -13,22 +12,35 @@ pub struct Ends {
     pub right: u8,
 }
 
-// How far a net reaches. The loop has no branch, so that the compiler can take many pins at a time; over a `zip` it takes a fifth more
-// instructions.
-pub fn ends_of(net: u16, nets: &[u16], columns: &[u8]) -> Ends
-    requires { length nets.now ≡ length columns.now }
-    ensures { result ≡ ends_of net (pins_of nets.now columns.now) }
-{
-    let kind = Kind::from(net);
-    let mut left = kind.left_start();
-    let mut right = kind.right_start();
-    for i in 0..nets.len() {
-        let own = nets[i] == net;
-        // a pin of another net moves neither end
-        left = left.min(pick(own, columns[i], 255));
-        right = right.max(pick(own, columns[i], 0));
+// The pins of a column list: the net and the column of each.
+#[derive(Clone, Copy)]
+pub struct PinList<'a> {
+    pub nets: &'a [u16],
+    pub columns: &'a [u8],
+    ghost paired: { length nets.now ≡ length columns.now },
+    ghost small: { (i : ℕ) → get_or nets.now i 0 < 65536 },
+}
+
+impl<'a> PinList<'a> {
+    ghost use Rattle.ends.specs.Ends.{ends_of};
+    ghost use Rattle.ends.specs.Pins.{pins_in};
+
+    // How far a net reaches. The loop has no branch, so that the compiler can take many pins at a time; over a `zip` it takes a fifth
+    // more instructions.
+    pub fn ends_of(self, net: u16) -> Ends
+        ensures { result ≡ ends_of net (pins_in self.entry) }
+    {
+        let kind = Kind::from(net);
+        let mut left = kind.left_start();
+        let mut right = kind.right_start();
+        for i in 0..self.nets.len() {
+            let own = self.nets[i] == net;
+            // a pin of another net moves neither end
+            left = left.min(pick(own, self.columns[i], 255));
+            right = right.max(pick(own, self.columns[i], 0));
+        }
+        Ends { left, right }
     }
-    Ends { left, right }
 }
 
 fn pick(yes: bool, a: u8, b: u8) -> u8

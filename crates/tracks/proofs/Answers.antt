@@ -1,17 +1,9 @@
 -- Which answer about tracks is due.
 -- Assumes nothing.
-use Rattle.std.proofs.Common.{Result}
-use Rattle.std.proofs.Common.{Ok}
-use Rattle.std.proofs.Common.{Err}
-use Rattle.tracked.specs.declared.TrackRefusal.{TrackRefusal}
-use Prim.Native.Nat.{ℕ, ◌≤◌, ◌<◌}
-use mathlib.Core.Path.{◌≡◌, sym, ap, ◌∙◌}
-use mathlib.Core.List.{List, ◌++◌, map}
-use mathlib.Core.Bool.{true, false}
-use native.Mathlib.Omega.{arith}
-use lib.ListN.{length, drop, length-map}
+use Rattle.std.proofs.Common.{Result, Ok, Err, ℕ, ◌≤◌, ◌<◌, ◌≡◌, sym, ap, ◌∙◌, List, ◌++◌, map, true, false, arith, length, drop, lt-ltb, le-ltb}
+use lib.ListN.{length-map}
 use lib.Seq.{take-length}
-use borrow.Author.Tests.{lt-ltb, le-ltb}
+use Rattle.tracked.specs.declared.TrackRefusal.{TrackRefusal}
 use Rattle.channel.specs.Density.{Pin, distinct}
 use Rattle.channel.proofs.Spans.{length-distinct}
 use Rattle.ends.specs.Ends.{pins_of}
@@ -46,7 +38,7 @@ module _ (ps : List Pin) (room : ℕ) (xs : List Span) (r : Result Routed TrackR
     gives-tracks h e spans = rw (one, le-ltb room (length xs) h) (e, rw (take-length xs) spans)
 
 -- the keys of the nets in order, and the spans that they stand for
-module _ (l : ℕ) (ns cs : List ℕ) (columns : Columns ns cs l) (numbers : Each Number ns) where
+module _ (l : ℕ) (ns cs : List ℕ) (columns : Columns cs l) (numbers : Each Number ns) where
   abbrev ps : List Pin
   ps = pins_of ns cs
 

@@ -5,13 +5,14 @@ mod method;
 
 ghost use Rattle.std.specs.Prelude.{◌≡◌, ℕ, ◌≤◌, ◌<◌, length};
 ghost use Rattle.soundness.specs.Read.{sheet_of};
-ghost use Rattle.ends.specs.Ends.{pins_of};
+ghost use Rattle.ends.specs.Pins.{pins_in};
 ghost use Rattle.left_edge.specs.Lists.{Each};
 ghost use Rattle.left_edge.specs.Spans.{spans_of, two_nets};
 ghost use Rattle.order.specs.Keys.{Columns};
 ghost use Rattle.sheet.specs.Sections.{sheet_held};
 ghost use Rattle.tracks.specs.Answer.{Gives, GivesIn, GivesFor, AsksTracks, tracked_of};
 
+use ends::{PinList, nets_fit};
 use method::route_keys;
 use nets::all_nets;
 use order::order_nets;
@@ -41,19 +42,24 @@ fn route_columns(sections: Sections, columns: &[u8], room: usize) -> Result<Rout
         sections.shape.top,
         &mut nets[..n],
     );
-    route_nets(&nets[..n], columns, sections.shape.columns as u8, room)
+    let pins = PinList {
+        nets: &nets[..n],
+        columns,
+    };
+    route_nets(pins, sections.shape.columns as u8, room)
 }
 
-// The same from the nets of the pins.
-fn route_nets(nets: &[u16], columns: &[u8], l: u8, room: usize) -> Result<Routed, TrackRefusal>
-    requires { Columns nets.now columns.now l × (length nets.now ≤ 128) }
-    ensures { GivesIn l (pins_of nets.now columns.now) nets.now room result }
+// The same from the pins.
+fn route_nets(pins: PinList, l: u8, room: usize) -> Result<Routed, TrackRefusal>
+    requires { Columns pins.columns.now l × (length pins.nets.now ≤ 128) }
+    ensures { GivesIn l (pins_in pins.entry) pins.entry.nets.now room result }
 {
-    if two_nets(nets, columns) {
+    if two_nets(pins) {
         return Err(TrackRefusal::TwoNets);
     }
+    nets_fit(pins.nets);
     let mut keys: [u32; 128] = [0; 128];
-    let count = order_nets(nets, columns, l, &mut keys);
+    let count = order_nets(pins, l, &mut keys);
     if room < count {
         return Err(TrackRefusal::SpanBuffer);
     }
@@ -61,16 +67,16 @@ fn route_nets(nets: &[u16], columns: &[u8], l: u8, room: usize) -> Result<Routed
 }
 
 // Whether a column has pins of two nets.
-fn two_nets(nets: &[u16], columns: &[u8]) -> bool
-    requires { (length nets.now ≡ length columns.now) × Each (λ (c : ℕ). c < 256) columns.now }
-    ensures { result ≡ two_nets (pins_of nets.now columns.now) }
+fn two_nets(pins: PinList) -> bool
+    requires { Each (λ (c : ℕ). c < 256) pins.columns.now }
+    ensures { result ≡ two_nets (pins_in pins.entry) }
 {
     // one more than the net of the last pin in each column, 0 where there was none
     let mut seen: [u32; 256] = [0; 256];
     let mut found = false;
-    for i in 0..nets.len() {
-        let mark = nets[i] as u32 + 1;
-        let column = columns[i] as usize;
+    for i in 0..pins.nets.len() {
+        let mark = pins.nets[i] as u32 + 1;
+        let column = pins.columns[i] as usize;
         let before = seen[column];
         found |= (before != 0) & (before != mark);
         seen[column] = mark;

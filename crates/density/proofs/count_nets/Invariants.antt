@@ -6,4 +6,4 @@ use Rattle.density.proofs.Sums.{Counted}
 use Rattle.density.proofs.count_nets.Given as goal
 
 abbrev pub invariant-loop-i : goal.invariant-loop-i
-invariant-loop-i l = (length l.counts ≡ 256) × Counted l.nets l.columns l.i l.counts
+invariant-loop-i l = (length l.counts ≡ 256) × Counted l.pins.nets.now l.pins.columns.now l.i l.counts
