@@ -25,43 +25,47 @@ fn possible_loads(l: Loads, i: usize, j: usize) -> Loads
     }
 }
 
-// Puts the loads of the cut (i, j) into the table.
-fn write_cell(
-    tops: &[u16],
-    bottoms: &[u16],
-    places: &[NetPlaces],
-    i: usize,
-    j: usize,
-    loads: &mut LoadTable,
-)
-    requires { Listed tops.now bottoms.now places.now × (i ≤ length tops.now) × (j ≤ length bottoms.now) }
-    ensures { Written tops.now bottoms.now loads.old.bytes loads.new.bytes
-        (λ (x y : ℕ). (x ≡ i) × (y ≡ j)) }
-{
-    let top = stand_at(tops, i);
-    let bottom = stand_at(bottoms, j);
-    let l = possible_loads(loads_at(places, Cut { top, bottom }), i, j);
-    loads.put(i, j, l);
+// The nets of both sides, and where each stands.
+#[derive(Clone, Copy)]
+struct ListedNets<'a> {
+    tops: &'a [u16],
+    bottoms: &'a [u16],
+    places: &'a [NetPlaces],
+    ghost listed: { Listed tops.now bottoms.now places.now },
 }
 
-// Puts the loads of all cuts with i top pins into the table.
-fn write_row(tops: &[u16], bottoms: &[u16], places: &[NetPlaces], i: usize, loads: &mut LoadTable)
-    requires { Listed tops.now bottoms.now places.now × (i ≤ length tops.now) }
-    ensures { Written tops.now bottoms.now loads.old.bytes loads.new.bytes
-        (λ (x y : ℕ). (x ≡ i) × (y < length bottoms.now + 1)) }
-{
-    for j in 0..bottoms.len() + 1 {
-        write_cell(tops, bottoms, places, i, j, loads);
+impl ListedNets<'_> {
+    // Puts the loads of the cut (i, j) into the table.
+    fn write_cell(self, i: usize, j: usize, loads: &mut LoadTable)
+        requires { (i ≤ length self.tops.now) × (j ≤ length self.bottoms.now) }
+        ensures { let s = self.entry in
+            Written s.tops.now s.bottoms.now loads.old.bytes loads.new.bytes (λ (x y : ℕ). (x ≡ i) × (y ≡ j)) }
+    {
+        let top = stand_at(self.tops, i);
+        let bottom = stand_at(self.bottoms, j);
+        let l = possible_loads(loads_at(self.places, Cut { top, bottom }), i, j);
+        loads.put(i, j, l);
     }
-}
 
-// Puts the loads of all cuts into the table.
-fn write_table(tops: &[u16], bottoms: &[u16], places: &[NetPlaces], loads: &mut LoadTable)
-    requires { Listed tops.now bottoms.now places.now }
-    ensures { LoadsRead tops.now bottoms.now loads.old.bytes loads.new.bytes }
-{
-    for i in 0..tops.len() + 1 {
-        write_row(tops, bottoms, places, i, loads);
+    // Puts the loads of all cuts with i top pins into the table.
+    fn write_row(self, i: usize, loads: &mut LoadTable)
+        requires { i ≤ length self.tops.now }
+        ensures { let s = self.entry in
+            Written s.tops.now s.bottoms.now loads.old.bytes loads.new.bytes
+            (λ (x y : ℕ). (x ≡ i) × (y < length s.bottoms.now + 1)) }
+    {
+        for j in 0..self.bottoms.len() + 1 {
+            self.write_cell(i, j, loads);
+        }
+    }
+
+    // Puts the loads of all cuts into the table.
+    fn write_table(self, loads: &mut LoadTable)
+        ensures { let s = self.entry in LoadsRead s.tops.now s.bottoms.now loads.old.bytes loads.new.bytes }
+    {
+        for i in 0..self.tops.len() + 1 {
+            self.write_row(i, loads);
+        }
     }
 }
 
@@ -78,7 +82,12 @@ fn tabulate(nets: &[u16], p: usize, loads: &mut LoadTable)
     };
     let mut places = [nowhere; 128];
     let k = list_places(nets, p, &mut places);
-    write_table(&nets[..p], &nets[p..], &places[..k], loads);
+    let listed = ListedNets {
+        tops: &nets[..p],
+        bottoms: &nets[p..],
+        places: &places[..k],
+    };
+    listed.write_table(loads);
 }
 
 // The loads of all cuts of two sections, as `format::part_in` gives them, once per search.
