@@ -5,20 +5,28 @@ use borrow.Rule.Slice.PartMut.{put_mid}
 use Rattle.std.proofs.lemmas.List.Sums.{fold-append}
 use Rattle.std.proofs.lemmas.List.{get_or_append_left, get_or-append_right}
 use borrow.Author.Tests.{lt-leb}
-use Rattle.channel.specs.Density.{any, Pin, maximum_to}
+use Rattle.std.specs.List.{sum_by}
+use Rattle.std.proofs.lemmas.List.Sums.{sum_by-cons}
+use Rattle.channel.specs.Density.{any, distinct, Pin, maximum_to}
 use Rattle.channel.proofs.Spans.{spans-from}
 use Rattle.channel.specs.Spans.{sum_last, leftmost, rightmost}
 use Rattle.ends.specs.declared.Ends.{Ends}
 use Rattle.ends.specs.Ends.{pins_of, ends_of}
-use Rattle.nets.proofs.Nets.{drop-next, get_or-zeros}
+use Rattle.nets.proofs.Nets.{get_or-zeros}
 use Rattle.density.specs.Counted.{net_spans, counted_at, Added, Small, within}
 
--- the crossings of a column: one net more
-sum_more :
-    (f : ℕ → Bool) (ns : List ℕ) (i : ℕ) → i < length ns
-    → sum_last f (drop i ns)
-    ≡ cond (any (eqb (get_or ns i 0)) (drop (i + 1) ns)) 0 (cond (f (get_or ns i 0)) 1 0) + sum_last f (drop (i + 1) ns)
-sum_more f ns i h = rw (drop-next ns i 0 h)
+-- the crossings of a column by the nets of a list, each of which stands there once
+abbrev pub crossings : (ℕ → Bool) → List ℕ → ℕ
+crossings f ns = sum_by (λ (n : ℕ). cond (f n) 1 0) ns
+
+crossings_once : (f : ℕ → Bool) (ns : List ℕ) → sum_last f ns ≡ crossings f (distinct ns)
+crossings_once f [] = refl
+crossings_once f (n ∷ ns) = go (any (eqb n) ns) (crossings_once f ns)
+  where
+    go : (t : Bool) → sum_last f ns ≡ crossings f (distinct ns)
+        → cond t 0 (cond (f n) 1 0) + sum_last f ns ≡ crossings f (cond t (distinct ns) (n ∷ distinct ns))
+    go true e = rw zero-add e
+    go false e = omega (arith, e, sum_by-cons (λ (m : ℕ). cond (f m) 1 0) n (distinct ns))
 
 -- no column has more crossings than there are terminals
 sum_most : (f : ℕ → Bool) (ns : List ℕ) → sum_last f ns ≤ length ns
@@ -92,31 +100,27 @@ module _ (ps : List Pin) (n : ℕ) (ends : Ends) (answer : ends ≡ ends_of n ps
       let inside : net_spans ps c n ≡ within ends.left ends.right c = by_ends c ∙ rw (lt-ltb ends.left ends.right h) in
       added c ∙ ap (λ (t : Bool). get_or before c 0 + cond t 1 0) (sym inside)
 
--- the counts of the nets passed, with those that the i-th and later ones still add, are the crossings
-abbrev pub Counted : List ℕ → List ℕ → ℕ → List ℕ → Type 0
-Counted ns cs i counts = (c : ℕ) → get_or counts c 0 + sum_last (net_spans (pins_of ns cs) c) (drop i ns) ≡ counted_at ns cs c
+-- the counts of the nets passed, with those that the nets that are left still add, are the crossings
+abbrev pub Counted : List ℕ → List ℕ → List ℕ → List ℕ → Type 0
+Counted ns cs left counts = (c : ℕ) → get_or counts c 0 + crossings (net_spans (pins_of ns cs) c) left ≡ counted_at ns cs c
 
 -- at first every count is 0
-pub counted_none : (ns cs : List ℕ) (n : ℕ) (counts : List ℕ) → counts ≡ replicate n 0 → Counted ns cs 0 counts
+pub counted_none : (ns cs : List ℕ) (n : ℕ) (counts : List ℕ) → counts ≡ replicate n 0 → Counted ns cs (distinct ns) counts
 unfolding counted_at
-counted_none ns cs n counts e c = rw (e, get_or-zeros n c, zero-add)
+counted_none ns cs n counts e c = rw (e, get_or-zeros n c, zero-add) (sym (crossings_once (net_spans (pins_of ns cs) c) ns))
 
-module _ (ns cs : List ℕ) (i : ℕ) (counts : List ℕ) (so_far : Counted ns cs i counts) where
+module _ (ns cs left counts : List ℕ) (so_far : Counted ns cs left counts) where
   -- no count is above the number of terminals
   pub counts_small : length ns ≤ 128 → Small counts
   unfolding counted_at
   counts_small h c = omega (arith, so_far c, sum_most (net_spans (pins_of ns cs) c) ns)
 
-  -- a net that occurs again later is not counted here, and one that occurs last is
-  module _ (inside : i < length ns) where
-    pub counted-later : any (eqb (get_or ns i 0)) (drop (i + 1) ns) ≡ true → Counted ns cs (i + 1) counts
-    counted-later later c =
-        let e = so_far c in
-        rw (sum_more (net_spans (pins_of ns cs) c) ns i inside, later, zero-add) at e
-
-    pub counted-last :
-        any (eqb (get_or ns i 0)) (drop (i + 1) ns) ≡ false → (after : List ℕ)
-        → Added 1 (λ (c : ℕ). net_spans (pins_of ns cs) c (get_or ns i 0)) counts after → Counted ns cs (i + 1) after
-    counted-last later after added c =
-        let e = rw (sum_more (net_spans (pins_of ns cs) c) ns i inside, later) at (so_far c) in
-        omega (arith, e, added c)
+  -- one net more is counted
+  pub counted-more :
+      (n : ℕ) (rest after : List ℕ) → left ≡ n ∷ rest → Added 1 (λ (c : ℕ). net_spans (pins_of ns cs) c n) counts after
+      → Counted ns cs rest after
+  counted-more n rest after e added c =
+      let f : ℕ → ℕ = λ (m : ℕ). cond (net_spans (pins_of ns cs) c m) 1 0 in
+      let here : crossings (net_spans (pins_of ns cs) c) left ≡ f n + crossings (net_spans (pins_of ns cs) c) rest
+      = ap (sum_by f) e ∙ sum_by-cons f n rest in
+      omega (arith, so_far c, here, added c)

@@ -8,7 +8,7 @@ ghost use Rattle.ends.specs.Pins.{pins_in};
 ghost use Rattle.density.specs.Counted.{within, net_spans, Added, Small, counted_at};
 
 use ends::PinList;
-use nets::{all_nets, occurs};
+use nets::{Distinct, all_nets};
 use sheet::Sections;
 
 // The density of a list, from the sections of its sheet.
@@ -34,15 +34,13 @@ pub fn list_density(sections: Sections, columns: &[u8]) -> u32
     u32::from(greatest(&counts, l))
 }
 
-// Counts each net once, where it occurs last.
+// Counts each net once.
 fn count_nets(pins: PinList, counts: &mut [u16])
     requires { (length pins.nets.now ≤ 128) × (counts.old ≡ replicate 256 0) }
     ensures { (c : ℕ) → get_or counts.new c 0 ≡ counted_at pins.entry.nets.now pins.entry.columns.now c }
 {
-    for (i, net) in pins.nets.iter().enumerate() {
-        if !occurs(*net, pins.nets, i + 1) {
-            count_net(*net, pins, counts);
-        }
+    for net in (Distinct { left: pins.nets }) {
+        count_net(net, pins, counts);
     }
 }
 

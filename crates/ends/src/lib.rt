@@ -1,7 +1,7 @@
 // How far each net reaches in a column list.
 #![tactic(auto)]
 
-ghost use Rattle.std.specs.Prelude.{◌≡◌, ◌<◌, ℕ, cond, length, get_or};
+ghost use Rattle.std.specs.Prelude.{◌≡◌, cond, length};
 
 use kind::Kind;
 
@@ -18,7 +18,6 @@ pub struct PinList<'a> {
     pub nets: &'a [u16],
     pub columns: &'a [u8],
     ghost paired: { length nets.now ≡ length columns.now },
-    ghost small: { (i : ℕ) → get_or nets.now i 0 < 65536 },
 }
 
 impl<'a> PinList<'a> {

@@ -12,7 +12,7 @@ ghost use Rattle.places.specs.Places.{AsksPlaces, Listed};
 use arrays::{LoadTable, Loads};
 use cut::{Cut, loads_at, stand_at};
 use nets::all_nets;
-use places::{Ends, NetPlaces, list_places};
+use places::{NetPlaces, list_places};
 
 // The loads of the columns that can be, and 0 for the others: one with a top pin has i ≥ 1, one with a bottom pin j ≥ 1.
 fn possible_loads(l: Loads, i: usize, j: usize) -> Loads
@@ -74,18 +74,11 @@ fn tabulate(nets: &[u16], p: usize, loads: &mut LoadTable)
     requires { AsksPlaces nets.now p }
     ensures { LoadsRead (take p nets.now) (drop p nets.now) loads.old.bytes loads.new.bytes }
 {
-    let none = Ends { first: 0, last: 0 };
-    let nowhere = NetPlaces {
-        net: 0,
-        top: none,
-        bottom: none,
-    };
-    let mut places = [nowhere; 128];
-    let k = list_places(nets, p, &mut places);
+    let places = list_places(nets, p);
     let listed = ListedNets {
         tops: &nets[..p],
         bottoms: &nets[p..],
-        places: &places[..k],
+        places: &places,
     };
     listed.write_table(loads);
 }

@@ -1,15 +1,24 @@
-use Rattle.std.proofs.Common.{ℕ, length, ap, ◌∙◌}
+use Rattle.std.proofs.Common.{rules, ℕ, length, ap, ◌∙◌}
 use lib.ListN.{length-replicate}
-use Rattle.density.proofs.Sums.{counted_none, counts_small}
+use Rattle.nets.specs.Distinct.{nets_left}
+use Rattle.density.proofs.Sums.{counted_none, counts_small, counted-more}
 use Rattle.density.proofs.count_nets.Goals as goal
 
-pub loop-i-init : goal.loop-i-init
-loop-i-init c = (
-  ap length c.requires.1 ∙ length-replicate {A = ℕ} 256 0,
-  counted_none c.args.pins.nets.now c.args.pins.columns.now 256 c.args.counts.now c.requires.1,
-)
+pub loop-net-init : goal.loop-net-init
+loop-net-init c =
+    let start = counted_none c.args.pins.nets.now c.args.pins.columns.now 256 c.args.counts.now c.requires.1 in
+    let size = ap length c.requires.1 ∙ length-replicate {A = ℕ} 256 0 in
+    search rules
 
 pub count_net-requires : goal.count_net-requires
 count_net-requires c =
-    let l = c.loop-i in
-    (l.invariant.0, counts_small c.args.pins.nets.now c.args.pins.columns.now l.i l.counts l.invariant.1 c.requires.0)
+    let l = c.loop-net in
+    let (size, counted) = l.invariant in
+    (size, counts_small c.args.pins.nets.now c.args.pins.columns.now (nets_left l.net-iterator) l.counts counted c.requires.0)
+
+pub loop-net-preserved : goal.loop-net-preserved
+loop-net-preserved c =
+    let l = c.loop-net in
+    let more = counted-more c.args.pins.nets.now c.args.pins.columns.now (nets_left l.net-iterator) l.counts l.invariant.1 c.in-Some.net
+    (nets_left c.next.new.self) _ c.in-Some.ensures.steps c.count_net.ensures in
+    search rules

@@ -2,8 +2,10 @@
 -- crossings.
 -- Assumes nothing.
 use Rattle.std.proofs.Common.{◌≡◌, length}
+use Rattle.nets.specs.Distinct.{nets_left}
 use Rattle.density.proofs.Sums.{Counted}
 use Rattle.density.proofs.count_nets.Given as goal
 
-abbrev pub invariant-loop-i : goal.invariant-loop-i
-invariant-loop-i l = (length l.counts ≡ 256) × Counted l.pins.nets.now l.pins.columns.now l.i l.counts
+abbrev pub invariant-loop-net : goal.invariant-loop-net
+invariant-loop-net l =
+    (length l.counts ≡ 256) × Counted l.pins.nets.now l.pins.columns.now (nets_left l.net-iterator) l.counts
