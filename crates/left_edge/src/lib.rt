@@ -13,7 +13,7 @@ pub struct Interval {
 
 // A net's record in the caller's array: its two ends and its track, 0 where it crosses no column. Eight bytes, as C lays the struct out.
 #[repr(C)]
-#[derive(Clone, Copy)]
+#[derive(Clone, Copy, Default)]
 pub struct Span {
     pub net: u16,
     pub left: u16,

@@ -1,4 +1,3 @@
 pub mod Sorted
-pub mod Written
 pub mod Pins
 pub mod Keys

@@ -1,9 +1,10 @@
 // The answer about the tracks of a column list, with its numbers by the refusal list, and the spans that come with it.
 #![tactic(auto)]
 
-ghost use Rattle.std.specs.Prelude.{◌≡◌, ◌≤◌};
+ghost use Rattle.std.specs.Prelude.{◌≡◌};
 ghost use Rattle.tracked.specs.Numbers.{track_number, track_amount};
 
+use arrayvec::ArrayVec;
 use left_edge::Span;
 use refusals::{HasAmount, ListRefusal, Reason};
 
@@ -25,12 +26,25 @@ pub enum TrackRefusal {
 // The numbers of nets and tracks, or why there are none.
 pub type Tracked = Result<Counts, TrackRefusal>;
 
-// The numbers of nets and tracks, with the spans of the nets in front of an array.
-#[derive(Clone, Copy)]
+// The spans of the nets in their order, and how many tracks they take.
+#[derive(Drop)]
 pub struct Routed {
-    pub counts: Counts,
-    pub spans: [Span; 128],
-    ghost room: { counts.nets ≤ 128 },
+    pub spans: ArrayVec<Span, 128>,
+    pub tracks: u16,
+}
+
+impl Routed {
+    ghost use Rattle.tracked.specs.Routed.{counts_of};
+
+    // The numbers of nets and tracks.
+    pub fn counts(&self) -> Counts
+        ensures { result ≡ counts_of self.now }
+    {
+        Counts {
+            nets: self.spans.len(),
+            tracks: self.tracks,
+        }
+    }
 }
 
 impl Reason for TrackRefusal {

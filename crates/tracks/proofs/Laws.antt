@@ -3,11 +3,11 @@
 use Rattle.std.proofs.Common.{Result, Ok, Err}
 use Prim.Native.Nat.{ℕ, ◌≤◌}
 use native.Mathlib.Omega.{arith}
-use mathlib.Core.Path.{◌≡◌, refl, sym, ap, ◌∙◌}
+use mathlib.Core.Path.{◌≡◌, refl, ap, ◌∙◌}
 use mathlib.Core.List.{List, ◌++◌}
 use mathlib.Core.Bool.{Bool, true, false, cond}
-use lib.ListN.{length, take, drop, length-take}
-use lib.Seq.{length-take-le, take_at}
+use lib.ListN.{length, drop, length-take}
+use lib.Seq.{length-take-le}
 use lib.Dec.{ltb}
 use borrow.Author.Tests.{ltb-false}
 use Rattle.channel.specs.Sheet.{Sheet}
@@ -22,10 +22,10 @@ use Rattle.tracked.specs.declared.TrackRefusal.{TrackRefusal}
 use Rattle.tracked.specs.declared.TrackRefusal.TheVariants.{TwoNets, SpanBuffer}
 use Rattle.tracked.specs.declared.Routed.{Routed}
 use Rattle.tracked.specs.Numbers.{count_of}
-use Rattle.tracked.specs.Routed.{no_spans, counts_in, array_in}
+use Rattle.tracked.specs.Routed.{spans_given}
 use Rattle.sheet.specs.declared.Layout.{Layout}
 use Rattle.refusals.specs.declared.ListRefusal.{ListRefusal}
-use Rattle.tracks.specs.Answer.{answer_for, tracked_as, tracked_of, spans_with, spans_after, Gives}
+use Rattle.tracks.specs.Answer.{answer_for, tracked_as, tracked_of, spans_after, Gives}
 
 -- an answer has no more spans than there is room for, and than there are
 few_for : (ps : List Pin) (room : ℕ) (xs : List Span)
@@ -52,25 +52,18 @@ few b cs room = few_as (sheet_of b) cs room (listed_of b cs)
 
 module _ (b cs : List ℕ) (spans : List Span) (r : Result Routed TrackRefusal)
     (gives : Gives (tracked_of b cs (length spans)) (spans_of (sheet_of b) cs) r) where
-  -- as many as the answer says are in front of the answer's array
-  held : take (count_of (counts_in r)) (array_in r) ≡ spans_with (counts_in r) (spans_of (sheet_of b) cs)
-  held =
-      let answer : Result Counts TrackRefusal = tracked_of b cs (length spans) in
-      let xs : List Span = spans_of (sheet_of b) cs in
-      rw (gives.0, gives.1)
-      (take_at (take (count_of answer) xs) (drop (count_of answer) no_spans) (count_of answer)
-      (length-take-le (count_of answer) xs (few b cs (length spans)).1))
-
-  -- the array has room for the spans, and so has the answer's own
-  pub spans_fit : (count_of (counts_in r) ≤ length spans) × (count_of (counts_in r) ≤ length (array_in r))
+  -- its spans fit into the array
+  pub spans_fit : length (spans_given r) ≤ length spans
   spans_fit =
-      let (room, all) = few b cs (length spans) in
-      let size = sym (length-take (count_of (counts_in r)) (array_in r)) ∙ ap length held
-      ∙ length-take (count_of (counts_in r)) (spans_of (sheet_of b) cs) in
-      let count = ap count_of gives.0 in
-      (omega arith, omega arith)
+      let answer : Result Counts TrackRefusal = tracked_of b cs (length spans) in
+      omega (arith, ap (λ (xs : List Span). length xs) gives.1, length-take (count_of answer) (spans_of (sheet_of b) cs), (few b cs (length spans)).0)
 
   -- with its spans copied into the front it is as it should be
-  pub spans_copied : take (count_of (counts_in r)) (array_in r) ++ drop (count_of (counts_in r)) spans ≡ spans_after b cs spans
+  pub spans_copied : spans_given r ++ drop (length (spans_given r)) spans ≡ spans_after b cs spans
   unfolding spans_after
-  spans_copied = rw (held, gives.0)
+  spans_copied =
+      let answer : Result Counts TrackRefusal = tracked_of b cs (length spans) in
+      let xs : List Span = spans_of (sheet_of b) cs in
+      let size : length (spans_given r) ≡ count_of answer
+      = ap (λ (ys : List Span). length ys) gives.1 ∙ length-take-le (count_of answer) xs (few b cs (length spans)).1 in
+      rw (size, gives.1)

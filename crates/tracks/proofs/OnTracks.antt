@@ -1,10 +1,6 @@
 -- The loop that puts intervals on tracks one after the other.
 -- Assumes nothing.
-use Prim.Native.Nat.{ℕ, zero, suc, ◌+◌, ◌≤◌, ◌<◌, max}
-use native.Mathlib.Omega.{arith}
-use mathlib.Core.Path.{◌≡◌, refl, ap, ◌∙◌}
-use mathlib.Core.List.{List, [], ◌∷◌, ◌++◌, map}
-use lib.ListN.{length, get_or, take, drop, set, replicate, length-set, drop_of_length-le}
+use Rattle.std.proofs.Common.{◌≡◌, ℕ, zero, suc, ◌+◌, ◌≤◌, ◌<◌, max, List, [], ◌∷◌, ◌++◌, map, length, get_or, drop, replicate, refl, sym, ap, ◌∙◌, arith, append_assoc, append-nil, length-append, drop_of_length-le}
 use Rattle.nets.proofs.Nets.{drop-next}
 use Rattle.left_edge.specs.declared.Interval.{Interval}
 use Rattle.left_edge.specs.declared.Span.{Span}
@@ -12,8 +8,6 @@ use Rattle.left_edge.specs.Lists.{Each}
 use Rattle.left_edge.specs.Method.{passed, track_on, step, span_on, left_edge_from, left_edge, greatest}
 use Rattle.left_edge.proofs.Lists.{each_image}
 use Rattle.order.specs.Keys.{interval_at}
-use Rattle.order.proofs.Written.{written_next, written_all}
-use Rattle.tracked.specs.Routed.{no_spans}
 use Rattle.tracks.proofs.Free.{Unused, unused_zeros, passed_unused, step_unused, length-step, edge_zeros}
 
 -- an interval of a key that begins in column 1 or right of it
@@ -36,20 +30,19 @@ module _ (keys : List ℕ) where
   -- Of i intervals that are on their tracks: their spans with those of the others are all, and so are their tracks with those of the
   -- others. The tracks from the i-th on are not used
   pub record OnTracks (spans : List Span) (es : List ℕ) (tracks i : ℕ) : Type 0 where
-    pub room : length spans ≡ 128
+    pub count : length spans ≡ i
     pub slots : length es ≡ 128
     pub unused : Unused i es
-    pub front : take i spans ++ rest es i ≡ whole
-    pub back : drop i spans ≡ drop i no_spans
+    pub front : spans ++ rest es i ≡ whole
     pub most : max tracks (greatest (rest es i)) ≡ greatest whole
 
 module _ (keys : List ℕ) (few : length keys ≤ 128) (begin : Each Starts keys) where
   -- none at first
-  pub on_none : OnTracks keys no_spans (replicate 128 0) 0 0
+  pub on_none : OnTracks keys [] (replicate 128 0) 0 0
   on_none =
       let all : rest keys (replicate 128 0) 0 ≡ whole keys =
       edge_zeros 128 (map interval_at keys) (each_image interval_at (λ (x : Interval). 1 ≤ x.left) keys begin) in
-      record { room = refl; slots = refl; unused = unused_zeros 128; front = all; back = refl; most = omega (arith, ap greatest all) }
+      record { count = refl; slots = refl; unused = unused_zeros 128; front = all; most = omega (arith, ap greatest all) }
 
   module _ {spans : List Span} {es : List ℕ} {tracks i : ℕ} (done : OnTracks keys spans es tracks i) where
     -- one more
@@ -63,28 +56,20 @@ module _ (keys : List ℕ) (few : length keys ≤ 128) (begin : Each Starts keys
       next : rest keys es i ≡ span_on es x ∷ rest keys (step es x) (i + 1)
       next = rw (drop-next keys i 0 inside, its)
 
-      written :
-          (take (i + 1) (set spans i (span_on es x)) ++ rest keys (step es x) (i + 1) ≡ whole keys)
-          × (drop (i + 1) (set spans i (span_on es x)) ≡ drop (i + 1) no_spans)
-      written =
-          written_next spans no_spans i (whole keys) (rest keys es i) done.front done.back (span_on es x)
-          (rest keys (step es x) (i + 1)) next (omega (arith, done.room))
-
-      pub on-next : OnTracks keys (set spans i (span_on es x)) (step es x) (max tracks (track_on es x)) (i + 1)
+      pub on-next : OnTracks keys (spans ++ span_on es x ∷ []) (step es x) (max tracks (track_on es x)) (i + 1)
       on-next = record {
-        room = length-set spans i (span_on es x) ∙ done.room;
+        count = length-append spans (span_on es x ∷ []) ∙ omega (arith, done.count);
         slots = length-step es x free ∙ done.slots;
         unused = step_unused i es done.unused x begins;
-        front = written.0;
-        back = written.1;
+        front = append_assoc spans (span_on es x ∷ []) (rest keys (step es x) (i + 1)) ∙ ap (λ (r : List Span). spans ++ r) (sym next) ∙ done.front;
         most = omega (arith, done.most, ap greatest next);
       }
 
     -- all at last
-    pub on-all : i ≡ length keys → (spans ≡ whole keys ++ drop i no_spans) × (tracks ≡ greatest (whole keys))
+    pub on-all : i ≡ length keys → (spans ≡ whole keys) × (tracks ≡ greatest (whole keys))
     on-all h =
         let past : length keys ≤ i = omega arith in
         let none : rest keys es i ≡ [] = rw (drop_of_length-le keys past) in (
-          (written_all spans no_spans i (whole keys) (rest keys es i) done.front done.back none (omega (arith, done.room))).1,
+          sym (append-nil spans) ∙ rw none at done.front,
           omega (arith, done.most, ap greatest none),
         )

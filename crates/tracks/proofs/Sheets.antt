@@ -1,6 +1,6 @@
 -- Tracks, from what the list's check and the routing of an assignment answer.
 -- Assumes nothing.
-use Rattle.std.proofs.Common.{Result, Ok, Err, ◌≡◌, ℕ, List, sym, ap, subst}
+use Rattle.std.proofs.Common.{Result, Ok, Err, ◌≡◌, ℕ, List, [], sym, ap, subst}
 use Rattle.std.specs.Borrow.{Bor}
 use Rattle.channel.specs.Sheet.{Sheet}
 use Rattle.refusals.specs.declared.ListRefusal.{ListRefusal}
@@ -18,12 +18,12 @@ use Rattle.list.proofs.Laws.{assigns, same, beside}
 use Rattle.tracked.specs.declared.TrackRefusal.{TrackRefusal}
 use Rattle.tracked.specs.declared.TrackRefusal.TheVariants.{Listed}
 use Rattle.tracked.specs.declared.Routed.{Routed}
-use Rattle.tracked.specs.Routed.{no_spans, counts_in, array_in}
+use Rattle.tracked.specs.Routed.{counts_in, spans_given}
 use Rattle.tracks.specs.Answer.{tracked_of, Gives, GivesFor, AsksTracks}
 
 pub list_refused :
     (b cs : List ℕ) (room : ℕ) (why : ListRefusal) → listed_of b cs ≡ Err why → (r : Result Routed TrackRefusal)
-    → (counts_in r ≡ Err (Listed why)) × (array_in r ≡ no_spans)
+    → (counts_in r ≡ Err (Listed why)) × (spans_given r ≡ [])
     → Gives (tracked_of b cs room) (spans_of (sheet_of b) cs) r
 unfolding tracked_of
 list_refused b cs room why e r answer = rw e answer

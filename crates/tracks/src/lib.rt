@@ -12,7 +12,7 @@ ghost use Rattle.order.specs.Keys.{Columns};
 ghost use Rattle.sheet.specs.Sections.{sheet_held};
 ghost use Rattle.tracks.specs.Answer.{Gives, GivesIn, GivesFor, AsksTracks, tracked_of};
 
-use ends::{PinList, nets_fit};
+use ends::PinList;
 use method::route_keys;
 use nets::all_nets;
 use order::order_nets;
@@ -57,13 +57,11 @@ fn route_nets(pins: PinList, l: u8, room: usize) -> Result<Routed, TrackRefusal>
     if two_nets(pins) {
         return Err(TrackRefusal::TwoNets);
     }
-    nets_fit(pins.nets);
-    let mut keys: [u32; 128] = [0; 128];
-    let count = order_nets(pins, l, &mut keys);
-    if room < count {
+    let keys = order_nets(pins, l);
+    if room < keys.len() {
         return Err(TrackRefusal::SpanBuffer);
     }
-    Ok(route_keys(&keys[..count]))
+    Ok(route_keys(&keys))
 }
 
 // Whether a column has pins of two nets.

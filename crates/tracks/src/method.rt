@@ -1,43 +1,32 @@
 // The left-edge method over the intervals of nets in order.
 
-ghost use Rattle.std.specs.Prelude.{◌≡◌, ◌++◌, map, ℕ, ◌≤◌, ◌<◌, length, drop};
+ghost use Rattle.std.specs.Prelude.{◌≡◌, map, ℕ, ◌≤◌, ◌<◌, length};
 ghost use Rattle.left_edge.specs.Lists.{Each};
 ghost use Rattle.left_edge.specs.Method.{passed, track_on, step, left_edge, greatest};
 ghost use Rattle.order.specs.Keys.{interval_at};
-ghost use Rattle.tracked.specs.Routed.{no_spans};
 
+use arrayvec::ArrayVec;
 use left_edge::{Interval, Span};
 use order::interval_at;
-use tracked::{Counts, Routed};
+use tracked::Routed;
 
 // The spans of intervals in order, each given as its key, and how many tracks they take.
 pub fn route_keys(keys: &[u32]) -> Routed
     requires { (length keys.now ≤ 128) × Each (λ (k : ℕ). 1 ≤ (interval_at k).left) keys.now }
-    ensures counts { result.counts ≡ record { nets = length keys.now; tracks = greatest (left_edge (map interval_at keys.now)) } }
-    ensures spans { result.spans ≡ left_edge (map interval_at keys.now) ++ drop (length keys.now) no_spans }
+    ensures spans { result.spans.items ≡ left_edge (map interval_at keys.now) }
+    ensures tracks { result.tracks ≡ greatest (left_edge (map interval_at keys.now)) }
 {
-    let mut spans = [Span {
-        net: 0,
-        left: 0,
-        right: 0,
-        track: 0,
-    }; 128];
+    let mut spans = ArrayVec::new();
     // how far right each track is used
     let mut ends: [u8; 128] = [0; 128];
     let mut tracks: u16 = 0;
-    for (i, key) in keys.iter().enumerate() {
+    for key in keys {
         let x = interval_at(*key);
         let track = take_track(x, &mut ends);
-        spans[i] = span_on(x, track);
+        spans.push(span_on(x, track));
         tracks = tracks.max(track);
     }
-    Routed {
-        counts: Counts {
-            nets: keys.len(),
-            tracks,
-        },
-        spans,
-    }
+    Routed { spans, tracks }
 }
 
 fn span_on(x: Interval, track: u16) -> Span

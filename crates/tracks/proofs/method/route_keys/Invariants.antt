@@ -3,5 +3,5 @@
 use Rattle.tracks.proofs.OnTracks.{OnTracks}
 use Rattle.tracks.proofs.method.route_keys.Given as goal
 
-abbrev pub invariant-loop-i : goal.invariant-loop-i
-invariant-loop-i l = OnTracks l.keys l.spans l.ends l.tracks l.i
+abbrev pub invariant-loop-key : goal.invariant-loop-key
+invariant-loop-key l = OnTracks l.keys l.spans.items l.ends l.tracks l.key-index
