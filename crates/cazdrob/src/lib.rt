@@ -6,12 +6,11 @@ ghost use Rattle.std.specs.Prelude.{◌≡◌};
 ghost use Rattle.channel.specs.Distance.{amount};
 ghost use Rattle.soundness.specs.Check.{check_of};
 ghost use Rattle.sheet.specs.Parts.{shape_of};
-ghost use Rattle.tracked.specs.Routed.{counts_in};
 ghost use Rattle.cazdrob.specs.Host.{check_number, HostMeasures, HostSearches, HostNumbers, HostTracks, HostMakes};
 
 use left_edge::Span;
 use refusals::{amount_of, number_of};
-use tracked::{Counts, Routed, TrackRefusal};
+use tracked::{Counts, Tracked};
 
 // The number of the sheet's refusal; 0 for a sound sheet.
 pub fn cazdrob_check(s: &[u8]) -> u32
@@ -71,27 +70,20 @@ pub fn cazdrob_tracks(
         nets.new tracks.new amount.new result }
 {
     let routed = tracks::route(s, columns, spans.len());
-    span_array::copy_spans(spans, routed);
-    put_answer(routed, nets, tracks, amount)
+    span_array::copy_spans(spans, &routed);
+    put_answer(routed.map(|r| r.counts()), nets, tracks, amount)
 }
 
 // Stores the numbers of an answer about tracks.
-fn put_answer(
-    routed: Result<Routed, TrackRefusal>,
-    nets: &mut usize,
-    tracks: &mut u32,
-    amount: &mut i32,
-) -> u32
-    ensures { HostNumbers (counts_in routed) nets.new tracks.new amount.new result }
+fn put_answer(answer: Tracked, nets: &mut usize, tracks: &mut u32, amount: &mut i32) -> u32
+    ensures { HostNumbers answer nets.new tracks.new amount.new result }
 {
-    let counts = match routed {
-        Ok(r) => r.counts,
-        Err(_) => Counts { nets: 0, tracks: 0 },
-    };
+    let none = Counts { nets: 0, tracks: 0 };
+    let counts = answer.unwrap_or(none);
     *nets = counts.nets;
     *tracks = u32::from(counts.tracks);
-    *amount = i32::from(amount_of(routed));
-    u32::from(number_of(routed))
+    *amount = i32::from(amount_of(answer));
+    u32::from(number_of(answer))
 }
 
 // Turns two sides of modules into the sheet of a channel of so many columns: 0 with the sheet and its length, or the number of a refusal

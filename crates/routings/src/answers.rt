@@ -21,15 +21,15 @@ pub fn expected(case: &Case) -> Answer {
 pub fn given(case: &Case) -> Answer {
     let routed = tracks::route(case.lent.sheet, case.lent.columns, case.room)?;
     Ok(Routing {
-        tracks: routed.counts.tracks,
-        spans: first_spans(&routed.spans, routed.counts.nets),
+        tracks: routed.tracks,
+        spans: first_spans(&routed.spans),
     })
 }
 
-// The first n spans that the library gives. What stands behind the spans of an answer is not looked at.
-fn first_spans(all: &[left_edge::Span; 128], n: usize) -> Spans {
+// The spans that the library gives, as far as there is room for them.
+fn first_spans(all: &[left_edge::Span]) -> Spans {
     let mut spans = ArrayVec::new();
-    for span in &all[..n.min(ROOM)] {
+    for span in &all[..all.len().min(ROOM)] {
         spans.push(Span {
             net: span.net,
             left: span.left,
