@@ -1,5 +1,7 @@
 // Numbers that look random. Each depends on the sheet's number, on what is drawn and for which terminal, and
 // on nothing else.
+// What is drawn is a number and no enum: it is only mixed into the bits, nothing branches on it, and each number stands at one place of the
+// programs.
 
 fn scramble(x: u64) -> u64 {
     let a = x ^ (x << 13);
