@@ -11,7 +11,7 @@ pub type Answer = Result<Routing, TrackRefusal>;
 // What is to be answered: the measurement's refusal, or what the rule says.
 pub fn expected(case: &Case) -> Answer {
     measure::measure(case.lent.sheet, case.lent.columns)?;
-    enumeration::route(case.sheet, case.list, case.room).map_err(|why| match why {
+    case.pins.route(case.room).map_err(|why| match why {
         NoTracks::TwoNets => TrackRefusal::TwoNets,
         NoTracks::Room => TrackRefusal::SpanBuffer,
     })
@@ -43,7 +43,7 @@ fn first_spans(all: &[left_edge::Span; 128], n: usize) -> Spans {
 // Whether the tracks are as many as the density, by the program's own count; a refusal has neither.
 pub fn is_dense(case: &Case, answer: &Answer) -> bool {
     match answer {
-        Ok(routing) => routing.tracks as usize == enumeration::density(case.sheet, case.list),
+        Ok(routing) => routing.tracks as usize == case.pins.density(),
         Err(_) => true,
     }
 }
