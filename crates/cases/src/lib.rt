@@ -50,6 +50,7 @@ pub fn build(page: &mut Page, command: Command) {
         bottom: low(c),
         bottom_first: d == 1,
     };
+    // each command has arguments of its own, so a `match` is plainer than a table of closures
     match command.word {
         // sheet A: columns, set, greatest distance, 1 for the bottom section first
         "A" => page.put_sheet_a(SheetA {

@@ -51,6 +51,7 @@ fn step<W: Write>(
     tally: &mut Tally,
 ) -> io::Result<()> {
     cases::build(page, command);
+    // each command has arguments of its own, so a `match` is plainer than a table of closures
     match command.word {
         "check" => printing::verdict(out, command.name, "accepted", page.sheet())?,
         "measure" => measure(out, page.sheet(), command)?,
