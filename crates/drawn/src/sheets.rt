@@ -5,6 +5,7 @@ ghost use Rattle.std.specs.Prelude.{◌≤◌};
 use crate::draws::{bits, draw};
 use enumeration::{ROOM, Sheet};
 use fixtures::{Page, Plan, full_set};
+use std::ops::RangeInclusive;
 use terminal::Record;
 
 // How the range of a terminal's distances is drawn.
@@ -47,12 +48,12 @@ pub fn plan_of(n: u64) -> Plan {
         columns: drawn_columns(n),
         top: drawn_pins(n, 1),
         bottom: drawn_pins(n, 2),
-        bottom_first: draw(n, 3, 0, 0, 1) == 1,
+        bottom_first: draw(n, 3, 0, 0..=1) == 1,
     }
 }
 
 fn drawn_pins(n: u64, what: u64) -> u8 {
-    match draw(n, what, 0, 0, 7) {
+    match draw(n, what, 0, 0..=7) {
         0 => 0,
         1 => 1,
         2 | 3 => 2,
@@ -63,12 +64,12 @@ fn drawn_pins(n: u64, what: u64) -> u8 {
 
 // Three in four are narrow, the others have up to 64 columns; 6 and 64 are the most frequent.
 fn drawn_columns(n: u64) -> u8 {
-    let (least, greatest, most) = if draw(n, 4, 0, 0, 3) == 0 {
-        (7, 80, 64)
+    let (range, most) = if draw(n, 4, 0, 0..=3) == 0 {
+        (7..=80, 64)
     } else {
-        (1, 8, 6)
+        (1..=8, 6)
     };
-    draw(n, 5, 0, least, greatest).min(most)
+    draw(n, 5, 0, range).min(most)
 }
 
 // The sheet of a plan: its terminals, top before bottom.
@@ -103,8 +104,8 @@ struct Pin {
 
 impl Pin {
     // A number that is drawn for this terminal.
-    fn draw(self, what: u64, low: u8, high: u8) -> u8 {
-        draw(self.n, what, self.t, low, high)
+    fn draw(self, what: u64, range: RangeInclusive<u8>) -> u8 {
+        draw(self.n, what, self.t, range)
     }
 
     fn terminal(self, digits: u64) -> Record {
@@ -122,9 +123,9 @@ impl Pin {
         let k = if self.n < REGULAR {
             (digits % 3) as u8
         } else {
-            self.draw(7, 0, draw(self.n, 8, 0, 0, 4))
+            self.draw(7, 0..=draw(self.n, 8, 0, 0..=4))
         };
-        match draw(self.n, 9, 0, 0, 7) {
+        match draw(self.n, 9, 0, 0..=7) {
             0 | 1 => 256 * k as u16 + 255,
             2 | 3 => k as u16 + 1,
             _ => net_of_drawn_kind(self.n, k),
@@ -136,10 +137,10 @@ impl Pin {
         if self.n < REGULAR {
             return RangeKind::Loose;
         }
-        match draw(self.n, 10, 0, 0, 7) {
+        match draw(self.n, 10, 0, 0..=7) {
             5 => RangeKind::One,
             6 => RangeKind::Both,
-            7 => match self.draw(11, 0, 3) {
+            7 => match self.draw(11, 0..=3) {
                 0 => RangeKind::Loose,
                 1 => RangeKind::One,
                 2 => RangeKind::Both,
@@ -154,15 +155,16 @@ impl Pin {
         if self.t == 0 || self.t == self.plan.top as usize {
             return (0, 0);
         }
-        let narrow = self.plan.columns <= 6;
-        let least = self.draw(12, 1, if narrow { 3 } else { 30 });
+        let (near, far) = if self.plan.columns <= 6 {
+            (3, 4)
+        } else {
+            (30, 40)
+        };
+        let least = self.draw(12, 1..=near);
         match self.range_kind() {
             RangeKind::Loose => (1, 255),
             RangeKind::One => (least, least),
-            RangeKind::Both => {
-                let greatest = self.draw(13, least, if narrow { 4 } else { 40 });
-                (least, greatest)
-            }
+            RangeKind::Both => (least, self.draw(13, least..=far)),
             RangeKind::Least => (least, 255),
         }
     }
@@ -174,8 +176,8 @@ impl Pin {
         }
         let most = if self.plan.columns <= 6 { 6 } else { 2 };
         let crowded = most < self.plan.top as u16 + self.plan.bottom as u16;
-        let drawn = match draw(self.n, 14, 0, 0, 4) {
-            4 => self.draw(15, 0, 3),
+        let drawn = match draw(self.n, 14, 0, 0..=4) {
+            4 => self.draw(15, 0..=3),
             common => common,
         };
         match drawn {
@@ -191,7 +193,7 @@ impl Pin {
             SetKind::Full => full_set(self.plan.columns),
             SetKind::Half => full_set(self.plan.columns) & bits(self.n, 16, self.t),
             SetKind::Few => self.column(0) | self.column(1) | self.column(2) | self.column(3),
-            SetKind::One if self.draw(17, 0, 19) == 0 => 0,
+            SetKind::One if self.draw(17, 0..=19) == 0 => 0,
             SetKind::One => self.column(0),
         }
     }
@@ -200,10 +202,10 @@ impl Pin {
     fn column(self, k: u64) -> u64
         requires { k ≤ 3 }
     {
-        match self.draw(18 + 2 * k, 0, 9) {
+        match self.draw(18 + 2 * k, 0..=9) {
             0 => single(1),
             1 => single(self.plan.columns),
-            _ => single(self.draw(19 + 2 * k, 1, self.plan.columns)),
+            _ => single(self.draw(19 + 2 * k, 1..=self.plan.columns)),
         }
     }
 }
@@ -212,7 +214,7 @@ impl Pin {
 // its kind.
 fn net_of_drawn_kind(n: u64, k: u8) -> u16 {
     let from = k as u16;
-    match draw(n, 26, k as usize, 0, 7) {
+    match draw(n, 26, k as usize, 0..=7) {
         0 => 1 + from,
         1 => 60000 - from,
         2 => 60001 + from,

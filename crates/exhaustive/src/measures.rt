@@ -110,7 +110,7 @@ impl<'a> Trial<'a> {
 fn draw_columns(n: u64, sheet: &Sheet) -> List {
     let mut list = [0; ROOM];
     for (t, column) in list.iter_mut().take(sheet.pins()).enumerate() {
-        *column = draw(n, 32, t, 0, sheet.columns);
+        *column = draw(n, 32, t, 0..=sheet.columns);
     }
     list
 }
@@ -118,10 +118,11 @@ fn draw_columns(n: u64, sheet: &Sheet) -> List {
 // Another column for one terminal: mostly one from 0 to L, sometimes any byte.
 fn change(n: u64, sheet: &Sheet, start: List) -> List {
     let mut list = start;
-    let t = draw(n, 33, 0, 0, sheet.pins().saturating_sub(1) as u8) as usize;
+    let last = sheet.pins().saturating_sub(1) as u8;
+    let t = draw(n, 33, 0, 0..=last) as usize;
     let most = if n % 4 == 0 { 255 } else { sheet.columns };
     if t < ROOM {
-        list[t] = draw(n, 34, 0, 0, most);
+        list[t] = draw(n, 34, 0, 0..=most);
     }
     list
 }

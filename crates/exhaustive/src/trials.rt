@@ -147,7 +147,7 @@ impl Case {
     // The answer, in buffers of the needed length or a little longer.
     fn answers_agree<W: Write>(&self, out: &mut W, work: &mut [u16]) -> io::Result<bool> {
         let lent = self.lent();
-        let spare = draw(self.n, 30, 0, 0, 4) as usize;
+        let spare = draw(self.n, 30, 0, 0..=4) as usize;
         let longer = Lent {
             sheet: lent.sheet,
             bytes: lent.bytes + spare,

@@ -4,6 +4,7 @@ ghost use Rattle.std.specs.Prelude.{◌≤◌};
 use drawn::{bits, draw, single};
 use enumeration::{List, ROOM, Sheet, column};
 use fixtures::{Lent, full_set};
+use std::ops::RangeInclusive;
 use terminal::Record;
 
 pub const LISTS: u8 = 10;
@@ -44,12 +45,12 @@ pub struct Trial<'a> {
 
 impl Trial<'_> {
     // A number that is drawn for this list.
-    fn draw(self, what: u64, low: u8, high: u8) -> u8 {
-        draw(self.n, what, self.k as usize, low, high)
+    fn draw(self, what: u64, range: RangeInclusive<u8>) -> u8 {
+        draw(self.n, what, self.k as usize, range)
     }
 
     pub fn kind(self) -> Kind {
-        match self.draw(40, 0, 11) {
+        match self.draw(40, 0..=11) {
             0 => Kind::Allowed,
             1 => Kind::Changed,
             2 => Kind::Shorter,
@@ -71,9 +72,9 @@ impl Trial<'_> {
     // Another column for one terminal, or for none.
     fn change(self, start: List) -> List {
         let mut list = start;
-        let t = self.draw(42, 0, ROOM as u8) as usize;
+        let t = self.draw(42, 0..=ROOM as u8) as usize;
         if t < ROOM {
-            list[t] = self.draw(43, 0, self.sheet.columns);
+            list[t] = self.draw(43, 0..=self.sheet.columns);
         }
         list
     }
@@ -97,7 +98,7 @@ impl Trial<'_> {
     // Room for too few spans, if there are nets, for as many as there are nets, or for more.
     pub fn room(self) -> usize {
         let nets = self.sheet.nets().len();
-        match self.draw(45, 0, 2) {
+        match self.draw(45, 0..=2) {
             0 => nets.saturating_sub(1),
             1 => nets,
             _ => nets + 2,
