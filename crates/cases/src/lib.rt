@@ -6,7 +6,8 @@ use fixtures::{Page, Plan, SheetA};
 use terminal::Record;
 use trailer::{Part, Trailer};
 
-// A command's word, its first six numbers, of which those that are missing are 0, and its name.
+// A command's word, its first six numbers, of which those that are missing are 0, and its name. The word stays text: each program has
+// commands of its own beside those that build a sheet.
 #[derive(Clone, Copy)]
 pub struct Command<'a> {
     pub word: &'a str,
