@@ -5,7 +5,7 @@ use crate::trials::Case;
 use drawn::{bits, draw, single};
 use enumeration::{List, Pins, ROOM, Sheet, count_lists, list_of};
 use fixtures::Lent;
-use printing::Columns;
+use printing::{Columns, Measurement};
 use refusals::ListRefusal;
 use std::io::{self, Write};
 
@@ -133,20 +133,6 @@ fn all_allowed(pins: Pins) -> bool {
     pins.all(|(terminal, column)| terminal.allowed & single(*column) != 0)
 }
 
-fn show<W: Write>(
-    out: &mut W,
-    n: u64,
-    wanted: Answer,
-    given: Answer,
-    columns: &[u8],
-) -> io::Result<()> {
-    write!(out, "sheet {n} measured at{}: expected ", Columns(columns))?;
-    printing::measurement(out, wanted)?;
-    write!(out, ", measure ")?;
-    printing::measurement(out, given)?;
-    writeln!(out)
-}
-
 // Measures a list; the tally has one wrong where the answer is.
 fn measure_one<W: Write>(out: &mut W, kind: Kind, case: &Case) -> io::Result<Tally> {
     let trial = Trial::new(kind, case);
@@ -155,7 +141,10 @@ fn measure_one<W: Write>(out: &mut W, kind: Kind, case: &Case) -> io::Result<Tal
     let given = measure::measure(lent.sheet, lent.columns).map(|density| density as usize);
     let wrong = wanted != given;
     if wrong && case.shown {
-        show(out, case.n, wanted, given, lent.columns)?;
+        let columns = Columns(lent.columns);
+        write!(out, "sheet {} measured at{columns}: ", case.n)?;
+        write!(out, "expected {}, ", Measurement(wanted))?;
+        writeln!(out, "measure {}", Measurement(given))?;
     }
     let amount = match wanted {
         Err(ListRefusal::Distance(amount)) => amount,

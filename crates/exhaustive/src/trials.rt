@@ -7,6 +7,7 @@ use buffers::first;
 use drawn::draw;
 use enumeration::{Best, Sheet};
 use fixtures::{Page, but_last};
+use printing::Found;
 use refusals::Refusal;
 use searched::SearchRefusal;
 use std::io::{self, Write};
@@ -57,20 +58,6 @@ fn cells_of(sheet: &Sheet) -> usize
     (sheet.top as usize + 1) * (sheet.bottom as usize + 1) * plane
 }
 
-// Both outcomes; where they are alike, a buffer is not left as it must be.
-fn show<W: Write>(
-    out: &mut W,
-    n: u64,
-    expected: Expected,
-    given: Answer,
-    columns: &[u8],
-) -> io::Result<()> {
-    write!(out, "sheet {n}, exhaustive: ")?;
-    printing::found(out, expected.answer, expected.written)?;
-    write!(out, "  search: ")?;
-    printing::found(out, given, columns)
-}
-
 impl Case {
     // Why the sheet is refused without its last byte: a trailer by itself is then too short, and behind a record it has no mark.
     pub fn cut_refusal(&self) -> Refusal {
@@ -110,8 +97,11 @@ impl Case {
         let good = given == expected.answer
             && buffers::columns_left(columns, expected.written)
             && buffers::work_left(cells, expected.cleared);
+        // both outcomes; where they are alike, a buffer is not left as it must be
         if !good && self.shown {
-            show(out, self.n, expected, given, columns)?;
+            let wanted = Found(expected.answer, expected.written);
+            writeln!(out, "sheet {}, exhaustive: {wanted}", self.n)?;
+            writeln!(out, "  search: {}", Found(given, columns))?;
         }
         Ok(good)
     }

@@ -1,10 +1,11 @@
 // One sheet: the library's answer to each of its cases against the program's own reading of the rule.
-use crate::answers;
+use crate::answers::Shown;
 use crate::lists::{LISTS, Trial};
 use crate::tally::Tally;
 use enumeration::{Pins, Sheet};
 use fixtures::{Lent, Page, Plan, full_set};
 use printing::Columns;
+use std::fmt;
 use std::io::{self, Write};
 
 // A sheet's number, the sheet with one of its lists, what of both a call is lent, and room for so many spans.
@@ -16,27 +17,25 @@ pub struct Case<'a> {
     pub room: usize,
 }
 
-fn show_case<W: Write>(out: &mut W, case: &Case) -> io::Result<()> {
-    let columns = Columns(case.lent.columns);
-    write!(
-        out,
-        "sheet {} routed at{columns} with room for {}",
-        case.n, case.room
-    )
+impl fmt::Display for Case<'_> {
+    fn fmt<W: fmt::Write>(&self, f: &mut fmt::Formatter<W>) -> fmt::Result {
+        let columns = Columns(self.lent.columns);
+        write!(
+            f,
+            "sheet {} routed at{columns} with room for {}",
+            self.n, self.room
+        )
+    }
 }
 
 // One call, and what it must answer. The first five that do not are shown.
 fn try_case<W: Write>(out: &mut W, case: &Case, tally: &mut Tally) -> io::Result<()> {
-    let wanted = answers::expected(case);
-    let given = answers::given(case);
-    let wrong = wanted != given || !answers::is_dense(case, &wanted);
+    let wanted = case.expected();
+    let given = case.given();
+    let wrong = wanted != given || !case.is_dense(&wanted);
     if wrong && tally.wrong < 5 {
-        show_case(out, case)?;
-        write!(out, ": expected ")?;
-        answers::show(out, &wanted)?;
-        write!(out, "; route ")?;
-        answers::show(out, &given)?;
-        writeln!(out)?;
+        write!(out, "{case}: expected {}; ", Shown(&wanted))?;
+        writeln!(out, "route {}", Shown(&given))?;
     }
     tally.add(&wanted, wrong);
     Ok(())
