@@ -45,7 +45,7 @@ pub fn work_left(work: &[u16], cleared: usize) -> bool {
 }
 
 // Whether a search with this answer has left its marked buffers as the rules say: of a sheet with so many terminals, which needs
-// so many cells.
+// so many cells. Each caller has the five from elsewhere, so that a struct of them would be filled for this call alone.
 pub fn left(answer: Searched, pins: usize, cells: usize, columns: &[u8], work: &[u16]) -> bool {
     let (written, cleared) = match answer {
         Ok(_) => (pins, cells),

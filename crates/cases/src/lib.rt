@@ -6,7 +6,8 @@ use fixtures::{Page, Plan, SheetA};
 use terminal::Record;
 use trailer::{Part, Trailer};
 
-// A command's word, its first six numbers, of which those that are missing are 0, and its name.
+// A command's word, its first six numbers, of which those that are missing are 0, and its name. The word stays text: each program has
+// commands of its own beside those that build a sheet.
 #[derive(Clone, Copy)]
 pub struct Command<'a> {
     pub word: &'a str,
@@ -50,6 +51,7 @@ pub fn build(page: &mut Page, command: Command) {
         bottom: low(c),
         bottom_first: d == 1,
     };
+    // each command has arguments of its own, so a `match` is plainer than a table of closures
     match command.word {
         // sheet A: columns, set, greatest distance, 1 for the bottom section first
         "A" => page.put_sheet_a(SheetA {

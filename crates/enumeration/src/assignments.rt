@@ -1,8 +1,7 @@
 // The lists that are assignments, and the best of them.
-use crate::crossings::density;
 use crate::lists::{count_lists, list_of};
-use crate::words::word;
-use crate::{List, Sheet};
+use crate::{List, Pins, Sheet};
+use terminal::Record;
 
 // The best assignment: its density, its word, and whether another one has this density.
 #[derive(Clone, Copy)]
@@ -14,6 +13,17 @@ pub struct Best {
 }
 
 impl Best {
+    // A list that is the only one so far.
+    fn new(sheet: &Sheet, list: List) -> Best {
+        let pins = Pins { sheet, list: &list };
+        Best {
+            list,
+            density: pins.density(),
+            word: pins.word(),
+            tied: false,
+        }
+    }
+
     // The better of two: less density, or the same and the smaller word.
     fn or(self, other: Best) -> Best {
         let mut best = if (other.density, other.word) < (self.density, self.word) {
@@ -26,25 +36,23 @@ impl Best {
     }
 }
 
-// The amount of the first distance that is out of range, top pairs before bottom pairs.
-pub fn first_amount(sheet: &Sheet, list: &List) -> Option<i16> {
-    for t in 1..sheet.pins() {
-        let terminal = sheet.records[t];
-        if t != sheet.top as usize {
-            let amount = amount(list[t - 1], list[t], terminal.least, terminal.greatest);
-            if amount.is_some() {
-                return amount;
-            }
-        }
+impl Pins<'_> {
+    // The amount of the first distance that is out of range, top pairs before bottom pairs.
+    pub fn first_amount(self) -> Option<i16> {
+        let Pins { sheet, list } = self;
+        let top = sheet.top as usize;
+        let columns = list.iter().zip(list.iter().skip(1));
+        let pins = sheet.terminals().iter().enumerate().skip(1).zip(columns);
+        let mut later = pins.filter(|((t, _), _)| *t != top);
+        later.find_map(|((_, terminal), (before, here))| amount(*before, *here, terminal))
     }
-    None
 }
 
-// The columns by which a distance is out of range: negative before the first column in range, which is tried first,
+// The columns by which a terminal's distance is out of range: negative before the first column in range, which is tried first,
 // positive behind the last.
-fn amount(before: u8, here: u8, least: u8, greatest: u8) -> Option<i16> {
-    let first = before as i16 + least as i16;
-    let last = before as i16 + greatest as i16;
+fn amount(before: u8, here: u8, terminal: &Record) -> Option<i16> {
+    let first = before as i16 + terminal.least as i16;
+    let last = before as i16 + terminal.greatest as i16;
     let column = here as i16;
     if column < first {
         Some(column - first)
@@ -59,12 +67,7 @@ fn amount(before: u8, here: u8, least: u8, greatest: u8) -> Option<i16> {
 pub fn find_best(sheet: &Sheet) -> Option<Best> {
     (0..count_lists(sheet))
         .map(|number| list_of(number, sheet))
-        .filter(|list| first_amount(sheet, list).is_none())
-        .map(|list| Best {
-            list,
-            density: density(sheet, &list),
-            word: word(sheet, &list),
-            tied: false,
-        })
+        .filter(|list| Pins { sheet, list }.first_amount().is_none())
+        .map(|list| Best::new(sheet, list))
         .reduce(|best, other| best.or(other))
 }

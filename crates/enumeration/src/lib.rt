@@ -1,4 +1,5 @@
-// Every list of allowed columns of a small sheet, and the tracks of a list, by the definitions alone: nothing here asks the library.
+// Every list of allowed columns of a small sheet, and the tracks of a list, by the definitions alone: nothing here asks the library. So
+// spans, ends, amounts and words, which the library has too, stand here again on purpose.
 #![tactic(auto)]
 
 mod assignments;
@@ -8,8 +9,8 @@ mod routes;
 mod sheets;
 mod words;
 
-pub use assignments::{Best, find_best, first_amount};
-pub use crossings::{Ends, density, leaves};
+pub use assignments::{Best, find_best};
+pub use crossings::{Ends, leaves};
 pub use lists::{column, count_lists, list_of};
-pub use routes::{NoTracks, Routing, Span, Spans, route};
-pub use sheets::{List, Nets, ROOM, Sheet};
+pub use routes::{NoTracks, Routing, Span, Spans};
+pub use sheets::{List, Nets, Pins, ROOM, Sheet};

@@ -8,7 +8,8 @@ pub fn count_lists(sheet: &Sheet) -> u64 {
     })
 }
 
-// Column number k of a set, from 0, and 64 where it has no more than k.
+// Column number k of a set, from 0, and 64 where it has no more than k: a list has a column for each terminal, so that an option would
+// become this 64 at each call.
 pub fn column(set: u64, k: u64) -> u8 {
     let mut rest = set;
     for _ in 0..k {

@@ -46,3 +46,10 @@ impl Sheet {
         nets
     }
 }
+
+// The pins of a sheet: its terminals, each in its column of a list.
+#[derive(Clone, Copy)]
+pub struct Pins<'a> {
+    pub sheet: &'a Sheet,
+    pub list: &'a List,
+}

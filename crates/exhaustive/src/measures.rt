@@ -3,8 +3,9 @@
 use crate::tally::Tally;
 use crate::trials::Case;
 use drawn::{bits, draw, single};
-use enumeration::{List, ROOM, Sheet, count_lists, density, first_amount, list_of};
-use printing::Columns;
+use enumeration::{List, Pins, ROOM, Sheet, count_lists, list_of};
+use fixtures::Lent;
+use printing::{Columns, Measurement};
 use refusals::ListRefusal;
 use std::io::{self, Write};
 
@@ -39,53 +40,77 @@ pub const KINDS: [Kind; 8] = [
     Kind::Cut,
 ];
 
-// What a call is lent: the sheet's bytes, and the list's columns.
+// A list that is measured on a sheet.
 #[derive(Clone, Copy)]
-struct Lent<'a> {
-    sheet: &'a [u8],
-    columns: &'a [u8],
+struct Trial<'a> {
+    kind: Kind,
+    case: &'a Case,
+    list: List,
 }
 
-fn lend<'a>(kind: Kind, case: &'a Case, list: &'a List) -> Lent<'a> {
-    let pins = case.sheet.pins();
-    let sheet = case.page.sheet();
-    let all = Lent {
-        sheet,
-        columns: &list[..pins],
-    };
-    match kind {
-        Kind::Longer => Lent {
-            columns: &list[..(pins + 1).min(ROOM)],
-            ..all
-        },
-        Kind::Shorter => Lent {
-            columns: &list[..pins.saturating_sub(1)],
-            ..all
-        },
-        Kind::Cut => Lent {
-            sheet: case.cut(),
-            ..all
-        },
-        _ => all,
+impl<'a> Trial<'a> {
+    fn new(kind: Kind, case: &'a Case) -> Trial<'a> {
+        let sheet = &case.sheet;
+        let best = case.best.map_or(list_of(0, sheet), |best| best.list);
+        let list = match kind {
+            Kind::First => list_of(0, sheet),
+            Kind::Allowed => list_of(bits(case.n, 31, 0) % count_lists(sheet).max(1), sheet),
+            Kind::Drawn => draw_columns(case.n, sheet),
+            Kind::Changed => change(case.n, sheet, best),
+            _ => best,
+        };
+        Trial { kind, case, list }
     }
-}
 
-fn list_for(kind: Kind, case: &Case) -> List {
-    let sheet = &case.sheet;
-    let best = case.best.map_or(list_of(0, sheet), |best| best.list);
-    match kind {
-        Kind::First => list_of(0, sheet),
-        Kind::Allowed => list_of(bits(case.n, 31, 0) % count_lists(sheet).max(1), sheet),
-        Kind::Drawn => draw_columns(case.n, sheet),
-        Kind::Changed => change(case.n, sheet, best),
-        _ => best,
+    // What a call is lent.
+    fn lend(&self) -> Lent<'_> {
+        let pins = self.case.sheet.pins();
+        let list = &self.list;
+        let all = Lent {
+            sheet: self.case.page.sheet(),
+            columns: &list[..pins],
+        };
+        match self.kind {
+            Kind::Longer => Lent {
+                columns: &list[..(pins + 1).min(ROOM)],
+                ..all
+            },
+            Kind::Shorter => all.shorter(),
+            Kind::Cut => all.cut(),
+            _ => all,
+        }
+    }
+
+    // What is to be answered, by the program's own reading, with the refusals in the order of the rules. The density of the best list is
+    // the one that the exhaustive search found.
+    fn expected(&self) -> Answer {
+        let case = self.case;
+        let pins = Pins {
+            sheet: &case.sheet,
+            list: &self.list,
+        };
+        match self.kind {
+            Kind::Best if let Some(best) = case.best => return Ok(best.density),
+            Kind::Cut => return Err(ListRefusal::Sheet(case.cut_refusal())),
+            _ => {}
+        }
+        if self.lend().columns.len() != case.sheet.pins() {
+            return Err(ListRefusal::Count);
+        }
+        if !all_allowed(pins) {
+            return Err(ListRefusal::Allowed);
+        }
+        match pins.first_amount() {
+            Some(amount) => Err(ListRefusal::Distance(amount)),
+            None => Ok(pins.density()),
+        }
     }
 }
 
 fn draw_columns(n: u64, sheet: &Sheet) -> List {
     let mut list = [0; ROOM];
     for (t, column) in list.iter_mut().take(sheet.pins()).enumerate() {
-        *column = draw(n, 32, t, 0, sheet.columns);
+        *column = draw(n, 32, t, 0..=sheet.columns);
     }
     list
 }
@@ -93,67 +118,33 @@ fn draw_columns(n: u64, sheet: &Sheet) -> List {
 // Another column for one terminal: mostly one from 0 to L, sometimes any byte.
 fn change(n: u64, sheet: &Sheet, start: List) -> List {
     let mut list = start;
-    let t = draw(n, 33, 0, 0, sheet.pins().saturating_sub(1) as u8) as usize;
+    let last = sheet.pins().saturating_sub(1) as u8;
+    let t = draw(n, 33, 0, 0..=last) as usize;
     let most = if n % 4 == 0 { 255 } else { sheet.columns };
     if t < ROOM {
-        list[t] = draw(n, 34, 0, 0, most);
+        list[t] = draw(n, 34, 0, 0..=most);
     }
     list
 }
 
 // Whether each column is in its terminal's set.
-fn all_allowed(sheet: &Sheet, list: &List) -> bool {
-    let mut pins = sheet.terminals().iter().zip(list);
+fn all_allowed(pins: Pins) -> bool {
+    let mut pins = pins.sheet.terminals().iter().zip(pins.list);
     pins.all(|(terminal, column)| terminal.allowed & single(*column) != 0)
-}
-
-// What is to be answered, by the program's own reading, with the refusals in the order of the rules. The density of the best list is the
-// one that the exhaustive search found.
-fn expected(kind: Kind, lent: Lent, case: &Case, list: &List) -> Answer {
-    let sheet = &case.sheet;
-    if kind == Kind::Best
-        && let Some(best) = case.best
-    {
-        return Ok(best.density);
-    }
-    if lent.sheet.len() != case.page.sheet().len() {
-        return Err(ListRefusal::Sheet(case.cut_refusal()));
-    }
-    if lent.columns.len() != sheet.pins() {
-        return Err(ListRefusal::Count);
-    }
-    if !all_allowed(sheet, list) {
-        return Err(ListRefusal::Allowed);
-    }
-    match first_amount(sheet, list) {
-        Some(amount) => Err(ListRefusal::Distance(amount)),
-        None => Ok(density(sheet, list)),
-    }
-}
-
-fn show<W: Write>(
-    out: &mut W,
-    n: u64,
-    wanted: Answer,
-    given: Answer,
-    columns: &[u8],
-) -> io::Result<()> {
-    write!(out, "sheet {n} measured at{}: expected ", Columns(columns))?;
-    printing::measurement(out, wanted)?;
-    write!(out, ", measure ")?;
-    printing::measurement(out, given)?;
-    writeln!(out)
 }
 
 // Measures a list; the tally has one wrong where the answer is.
 fn measure_one<W: Write>(out: &mut W, kind: Kind, case: &Case) -> io::Result<Tally> {
-    let list = list_for(kind, case);
-    let lent = lend(kind, case, &list);
-    let wanted = expected(kind, lent, case, &list);
+    let trial = Trial::new(kind, case);
+    let lent = trial.lend();
+    let wanted = trial.expected();
     let given = measure::measure(lent.sheet, lent.columns).map(|density| density as usize);
     let wrong = wanted != given;
     if wrong && case.shown {
-        show(out, case.n, wanted, given, lent.columns)?;
+        let columns = Columns(lent.columns);
+        write!(out, "sheet {} measured at{columns}: ", case.n)?;
+        write!(out, "expected {}, ", Measurement(wanted))?;
+        writeln!(out, "measure {}", Measurement(given))?;
     }
     let amount = match wanted {
         Err(ListRefusal::Distance(amount)) => amount,

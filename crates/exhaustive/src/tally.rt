@@ -14,7 +14,7 @@ pub struct Tally {
 }
 
 impl Tally {
-    // Sums that wrap ask for no bound on the counts.
+    // Sums that wrap ask for no bound on the counts; as they wrap, this is a function and no `+`.
     pub fn plus(self, other: Tally) -> Tally {
         Tally {
             leaving: self.leaving.wrapping_add(other.leaving),

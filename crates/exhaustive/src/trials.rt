@@ -6,7 +6,8 @@ use crate::tally::Tally;
 use buffers::first;
 use drawn::draw;
 use enumeration::{Best, Sheet};
-use fixtures::Page;
+use fixtures::{Page, but_last};
+use printing::Found;
 use refusals::Refusal;
 use searched::SearchRefusal;
 use std::io::{self, Write};
@@ -19,23 +20,6 @@ pub struct Case {
     pub page: Page,
     pub best: Option<Best>,
     pub shown: bool,
-}
-
-impl Case {
-    // The sheet without its last byte.
-    pub fn cut(&self) -> &[u8] {
-        let s = self.page.sheet();
-        &s[..s.len().saturating_sub(1)]
-    }
-
-    // Why it is refused: a trailer without its last byte is too short by itself, and has no mark behind a record.
-    pub fn cut_refusal(&self) -> Refusal {
-        if self.sheet.pins() == 0 {
-            Refusal::Short
-        } else {
-            Refusal::Mark
-        }
-    }
 }
 
 // What a call is lent: the sheet's bytes, so many bytes for columns and so many cells for work.
@@ -74,103 +58,104 @@ fn cells_of(sheet: &Sheet) -> usize
     (sheet.top as usize + 1) * (sheet.bottom as usize + 1) * plane
 }
 
-// Both outcomes; where they are alike, a buffer is not left as it must be.
-fn show<W: Write>(
-    out: &mut W,
-    n: u64,
-    expected: Expected,
-    given: Answer,
-    columns: &[u8],
-) -> io::Result<()> {
-    write!(out, "sheet {n}, exhaustive: ")?;
-    printing::found(out, expected.answer, expected.written)?;
-    write!(out, "  search: ")?;
-    printing::found(out, given, columns)
-}
-
-// One call on the sheet.
-fn call_agrees<W: Write>(
-    out: &mut W,
-    case: &Case,
-    lent: Lent,
-    expected: Expected,
-    work: &mut [u16],
-) -> io::Result<bool> {
-    // the columns of eight terminals, and four to spare
-    let mut room = [0; 12];
-    let columns = first(&mut room, lent.bytes);
-    let cells = first(work, lent.cells);
-    buffers::mark(columns);
-    buffers::mark(cells);
-    let given = search::search(lent.sheet, columns, cells).map(usize::from);
-    let good = given == expected.answer
-        && buffers::columns_left(columns, expected.written)
-        && buffers::work_left(cells, expected.cleared);
-    if !good && case.shown {
-        show(out, case.n, expected, given, columns)?;
+impl Case {
+    // Why the sheet is refused without its last byte: a trailer by itself is then too short, and behind a record it has no mark.
+    pub fn cut_refusal(&self) -> Refusal {
+        if self.sheet.pins() == 0 {
+            Refusal::Short
+        } else {
+            Refusal::Mark
+        }
     }
-    Ok(good)
-}
 
-// The refusals: a sheet cut by a byte, a work buffer that is one too short, and that with a column buffer that is
-// one too short, if there are columns.
-fn refusals_agree<W: Write>(
-    out: &mut W,
-    case: &Case,
-    lent: Lent,
-    work: &mut [u16],
-) -> io::Result<bool> {
-    let cut = Lent {
-        sheet: case.cut(),
-        ..lent
-    };
-    let few = Lent {
-        cells: lent.cells.saturating_sub(1),
-        ..lent
-    };
-    let fewer = Lent {
-        bytes: lent.bytes.saturating_sub(1),
-        ..few
-    };
-    let both = if lent.bytes == 0 {
-        SearchRefusal::Cells
-    } else {
-        SearchRefusal::Columns
-    };
-    let mark = SearchRefusal::Sheet(case.cut_refusal());
-    let a = call_agrees(out, case, cut, nothing(mark), work)?;
-    let b = call_agrees(out, case, few, nothing(SearchRefusal::Cells), work)?;
-    let c = call_agrees(out, case, fewer, nothing(both), work)?;
-    Ok(a && b && c)
-}
+    // What a call is lent that is to give the answer.
+    fn lent(&self) -> Lent<'_>
+        ensures { (result.bytes ≤ 9) × (result.cells ≤ 4294967296) }
+    {
+        Lent {
+            sheet: self.page.sheet(),
+            bytes: self.sheet.pins(),
+            cells: cells_of(&self.sheet),
+        }
+    }
 
-// The answer, in buffers of the needed length or a little longer.
-fn answers_agree<W: Write>(
-    out: &mut W,
-    case: &Case,
-    lent: Lent,
-    work: &mut [u16],
-) -> io::Result<bool>
-    requires { (lent.bytes ≤ 9) × (lent.cells ≤ 4294967296) }
-{
-    let spare = draw(case.n, 30, 0, 0, 4) as usize;
-    let longer = Lent {
-        sheet: lent.sheet,
-        bytes: lent.bytes + spare,
-        cells: lent.cells + spare,
-    };
-    let expected = match &case.best {
-        Some(best) => Expected {
-            answer: Ok(best.density),
-            written: &best.list[..lent.bytes],
-            cleared: lent.cells,
-        },
-        None => Expected {
-            cleared: lent.cells,
-            ..nothing(SearchRefusal::NoAssignment)
-        },
-    };
-    call_agrees(out, case, longer, expected, work)
+    // One call on the sheet.
+    fn call_agrees<W: Write>(
+        &self,
+        out: &mut W,
+        lent: Lent,
+        expected: Expected,
+        work: &mut [u16],
+    ) -> io::Result<bool> {
+        // the columns of eight terminals, and four to spare
+        let mut room = [0; 12];
+        let columns = first(&mut room, lent.bytes);
+        let cells = first(work, lent.cells);
+        buffers::mark(columns);
+        buffers::mark(cells);
+        let given = search::search(lent.sheet, columns, cells).map(usize::from);
+        let good = given == expected.answer
+            && buffers::columns_left(columns, expected.written)
+            && buffers::work_left(cells, expected.cleared);
+        // both outcomes; where they are alike, a buffer is not left as it must be
+        if !good && self.shown {
+            let wanted = Found(expected.answer, expected.written);
+            writeln!(out, "sheet {}, exhaustive: {wanted}", self.n)?;
+            writeln!(out, "  search: {}", Found(given, columns))?;
+        }
+        Ok(good)
+    }
+
+    // The refusals: a sheet cut by a byte, a work buffer that is one too short, and that with a column buffer that is
+    // one too short, if there are columns.
+    fn refusals_agree<W: Write>(&self, out: &mut W, work: &mut [u16]) -> io::Result<bool> {
+        let lent = self.lent();
+        let cut = Lent {
+            sheet: but_last(lent.sheet),
+            ..lent
+        };
+        let few = Lent {
+            cells: lent.cells.saturating_sub(1),
+            ..lent
+        };
+        let fewer = Lent {
+            bytes: lent.bytes.saturating_sub(1),
+            ..few
+        };
+        let both = if lent.bytes == 0 {
+            SearchRefusal::Cells
+        } else {
+            SearchRefusal::Columns
+        };
+        let mark = SearchRefusal::Sheet(self.cut_refusal());
+        let a = self.call_agrees(out, cut, nothing(mark), work)?;
+        let b = self.call_agrees(out, few, nothing(SearchRefusal::Cells), work)?;
+        let c = self.call_agrees(out, fewer, nothing(both), work)?;
+        Ok(a && b && c)
+    }
+
+    // The answer, in buffers of the needed length or a little longer.
+    fn answers_agree<W: Write>(&self, out: &mut W, work: &mut [u16]) -> io::Result<bool> {
+        let lent = self.lent();
+        let spare = draw(self.n, 30, 0, 0..=4) as usize;
+        let longer = Lent {
+            sheet: lent.sheet,
+            bytes: lent.bytes + spare,
+            cells: lent.cells + spare,
+        };
+        let expected = match &self.best {
+            Some(best) => Expected {
+                answer: Ok(best.density),
+                written: &best.list[..lent.bytes],
+                cleared: lent.cells,
+            },
+            None => Expected {
+                cleared: lent.cells,
+                ..nothing(SearchRefusal::NoAssignment)
+            },
+        };
+        self.call_agrees(out, longer, expected, work)
+    }
 }
 
 // Every call on the sheet.
@@ -192,13 +177,8 @@ pub fn try_sheet<W: Write>(
         best,
         shown,
     };
-    let lent = Lent {
-        sheet: case.page.sheet(),
-        bytes: sheet.pins(),
-        cells: cells_of(&sheet),
-    };
-    let refusals = refusals_agree(out, &case, lent, work)?;
-    let answers = answers_agree(out, &case, lent, work)?;
+    let refusals = case.refusals_agree(out, work)?;
+    let answers = case.answers_agree(out, work)?;
     let lists = measures::measure_all(out, &case)?;
     let mut nets = sheet
         .terminals()

@@ -5,7 +5,7 @@
 use buffers::first;
 use cases::{Command, low};
 use fixtures::Page;
-use printing::Columns;
+use printing::{Columns, Found, Measurement};
 use std::io::{self, Write};
 
 // The columns and the work cells of 64 top terminals on 64 columns, and some behind.
@@ -29,18 +29,17 @@ fn find<W: Write>(out: &mut W, s: &[u8], command: Command) -> io::Result<bool> {
     buffers::mark(&mut work);
     let lent = first(&mut columns, bytes as usize);
     let answer = search::search(s, lent, first(&mut work, cells as usize));
-    write!(out, "{}: ", command.name)?;
-    printing::found(out, answer, first(&mut columns, pins as usize))?;
+    let found = Found(answer, first(&mut columns, pins as usize));
+    writeln!(out, "{}: {found}", command.name)?;
     Ok(buffers::left(answer, pins as usize, needed as usize, &columns, &work))
 }
 
 // The measurement of four columns.
 fn measure<W: Write>(out: &mut W, s: &[u8], command: Command) -> io::Result<()> {
     let [a, b, c, d, _, _] = command.numbers;
-    let list = [low(a), low(b), low(c), low(d)];
-    write!(out, "A measured at{}: ", Columns(&list))?;
-    printing::measurement(out, measure::measure(s, &list))?;
-    writeln!(out)
+    let list = [a, b, c, d].map(low);
+    let measured = Measurement(measure::measure(s, &list));
+    writeln!(out, "A measured at{}: {measured}", Columns(&list))
 }
 
 // Runs one command on the page.
@@ -51,6 +50,7 @@ fn step<W: Write>(
     tally: &mut Tally,
 ) -> io::Result<()> {
     cases::build(page, command);
+    // each command has arguments of its own, so a `match` is plainer than a table of closures
     match command.word {
         "check" => printing::verdict(out, command.name, "accepted", page.sheet())?,
         "measure" => measure(out, page.sheet(), command)?,

@@ -2,7 +2,7 @@
 
 use buffers::first;
 use fixtures::{Page, SheetA};
-use printing::yes_or_no;
+use printing::{Found, yes_or_no};
 use search::Both;
 use searched::Searched;
 use std::io::{self, Write};
@@ -92,7 +92,7 @@ impl Room {
 
     // A search's line; whether it left its buffers as the rules say.
     fn report<W: Write>(&self, out: &mut W, answer: Searched) -> io::Result<bool> {
-        printing::found(out, answer, &self.columns[..PINS])?;
+        writeln!(out, "{}", Found(answer, &self.columns[..PINS]))?;
         Ok(buffers::left(answer, PINS, self.form.needed, &self.columns, &self.work))
     }
 }

@@ -67,41 +67,43 @@ pub fn verdict<W: Write>(out: &mut W, name: &str, sound: &str, s: &[u8]) -> io::
 }
 
 // The density of an answer, or the number of its refusal.
-fn answer<W: Write, T: fmt::Display + Copy, E: Reason + Copy>(
-    out: &mut W,
+fn answer<W: fmt::Write, T: fmt::Display + Copy, E: Reason + Copy>(
+    f: &mut fmt::Formatter<W>,
     answer: Result<T, E>,
-) -> io::Result<()> {
+) -> fmt::Result {
     match answer {
-        Ok(density) => write!(out, "density {density}"),
-        Err(why) => write!(out, "refused {}", why.number()),
+        Ok(density) => write!(f, "density {density}"),
+        Err(why) => write!(f, "refused {}", why.number()),
     }
 }
 
-// The answer of a measurement.
-pub fn measurement<W: Write, T: fmt::Display + Copy>(
-    out: &mut W,
-    measured: Result<T, ListRefusal>,
-) -> io::Result<()> {
-    answer(out, measured)?;
-    match measured {
-        Err(ListRefusal::Distance(amount)) => write!(out, ", amount {amount}"),
-        _ => Ok(()),
-    }
-}
+// The answer of a measurement, with the amount that comes with 14.
+#[derive(Clone, Copy)]
+pub struct Measurement<T>(pub Result<T, ListRefusal>);
 
-// The answer of a search with the columns that it found, and the line's end.
-pub fn found<W: Write, T: fmt::Display + Copy>(
-    out: &mut W,
-    found: Result<T, SearchRefusal>,
-    columns: &[u8],
-) -> io::Result<()> {
-    answer(out, found)?;
-    if found.is_ok() {
-        if columns.is_empty() {
-            write!(out, ", no columns")?;
-        } else {
-            write!(out, ", columns{}", Columns(columns))?;
+impl<T: fmt::Display + Copy> fmt::Display for Measurement<T> {
+    fn fmt<W: fmt::Write>(&self, f: &mut fmt::Formatter<W>) -> fmt::Result {
+        answer(f, self.0)?;
+        match self.0 {
+            Err(ListRefusal::Distance(amount)) => write!(f, ", amount {amount}"),
+            _ => Ok(()),
         }
     }
-    writeln!(out)
+}
+
+// The answer of a search, with the columns that it found.
+#[derive(Clone, Copy)]
+pub struct Found<'a, T>(pub Result<T, SearchRefusal>, pub &'a [u8]);
+
+impl<T: fmt::Display + Copy> fmt::Display for Found<'_, T> {
+    fn fmt<W: fmt::Write>(&self, f: &mut fmt::Formatter<W>) -> fmt::Result {
+        answer(f, self.0)?;
+        if self.0.is_err() {
+            Ok(())
+        } else if self.1.is_empty() {
+            write!(f, ", no columns")
+        } else {
+            write!(f, ", columns{}", Columns(self.1))
+        }
+    }
 }

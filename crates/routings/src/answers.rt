@@ -3,27 +3,37 @@
 use crate::trials::Case;
 use arrayvec::ArrayVec;
 use enumeration::{NoTracks, ROOM, Routing, Span, Spans};
-use std::io::{self, Write};
+use std::fmt;
 use tracked::TrackRefusal;
 
 pub type Answer = Result<Routing, TrackRefusal>;
 
-// What is to be answered: the measurement's refusal, or what the rule says.
-pub fn expected(case: &Case) -> Answer {
-    measure::measure(case.lent.sheet, case.lent.columns)?;
-    enumeration::route(case.sheet, case.list, case.room).map_err(|why| match why {
-        NoTracks::TwoNets => TrackRefusal::TwoNets,
-        NoTracks::Room => TrackRefusal::SpanBuffer,
-    })
-}
+impl Case<'_> {
+    // What is to be answered: the measurement's refusal, or what the rule says.
+    pub fn expected(&self) -> Answer {
+        measure::measure(self.lent.sheet, self.lent.columns)?;
+        self.pins.route(self.room).map_err(|why| match why {
+            NoTracks::TwoNets => TrackRefusal::TwoNets,
+            NoTracks::Room => TrackRefusal::SpanBuffer,
+        })
+    }
 
-// What the library answers.
-pub fn given(case: &Case) -> Answer {
-    let routed = tracks::route(case.lent.sheet, case.lent.columns, case.room)?;
-    Ok(Routing {
-        tracks: routed.tracks,
-        spans: first_spans(&routed.spans),
-    })
+    // What the library answers.
+    pub fn given(&self) -> Answer {
+        let routed = tracks::route(self.lent.sheet, self.lent.columns, self.room)?;
+        Ok(Routing {
+            tracks: routed.tracks,
+            spans: first_spans(&routed.spans),
+        })
+    }
+
+    // Whether the tracks are as many as the density, by the program's own count; a refusal has neither.
+    pub fn is_dense(&self, answer: &Answer) -> bool {
+        match answer {
+            Ok(routing) => routing.tracks as usize == self.pins.density(),
+            Err(_) => true,
+        }
+    }
 }
 
 // The spans that the library gives, as far as there is room for them.
@@ -40,34 +50,29 @@ fn first_spans(all: &[left_edge::Span]) -> Spans {
     spans
 }
 
-// Whether the tracks are as many as the density, by the program's own count; a refusal has neither.
-pub fn is_dense(case: &Case, answer: &Answer) -> bool {
-    match answer {
-        Ok(routing) => routing.tracks as usize == enumeration::density(case.sheet, case.list),
-        Err(_) => true,
+// An answer as it is shown.
+#[derive(Clone, Copy)]
+pub struct Shown<'a>(pub &'a Answer);
+
+impl fmt::Display for Shown<'_> {
+    fn fmt<W: fmt::Write>(&self, f: &mut fmt::Formatter<W>) -> fmt::Result {
+        match self.0 {
+            Ok(routing) => show_routing(f, routing),
+            Err(why) => write!(f, "refused {why:?}"),
+        }
     }
 }
 
-pub fn show<W: Write>(out: &mut W, answer: &Answer) -> io::Result<()> {
-    match answer {
-        Ok(routing) => show_routing(out, routing),
-        Err(why) => write!(out, "refused {why:?}"),
-    }
-}
-
-fn show_routing<W: Write>(out: &mut W, routing: &Routing) -> io::Result<()> {
-    write!(
-        out,
-        "nets {}, tracks {}",
-        routing.spans.len(),
-        routing.tracks
-    )?;
-    for span in routing.spans.as_slice() {
+fn show_routing<W: fmt::Write>(f: &mut fmt::Formatter<W>, routing: &Routing) -> fmt::Result {
+    let spans = routing.spans.as_slice();
+    write!(f, "nets {}, tracks {}", spans.len(), routing.tracks)?;
+    for span in spans {
         write!(
-            out,
-            ", net {} from {} to {} on track {}",
-            span.net, span.left, span.right, span.track
+            f,
+            ", net {} from {} to {} ",
+            span.net, span.left, span.right
         )?;
+        write!(f, "on track {}", span.track)?;
     }
     Ok(())
 }

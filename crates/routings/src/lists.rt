@@ -3,7 +3,8 @@ ghost use Rattle.std.specs.Prelude.{◌≤◌};
 
 use drawn::{bits, draw, single};
 use enumeration::{List, ROOM, Sheet, column};
-use fixtures::full_set;
+use fixtures::{Lent, full_set};
+use std::ops::RangeInclusive;
 use terminal::Record;
 
 pub const LISTS: u8 = 10;
@@ -23,89 +24,148 @@ pub enum Kind {
     Cut,
 }
 
-pub fn draw_kind(n: u64, k: u8) -> Kind {
-    match draw(n, 40, k as usize, 0, 11) {
-        0 => Kind::Allowed,
-        1 => Kind::Changed,
-        2 => Kind::Shorter,
-        3 => Kind::Cut,
-        4 | 5 => Kind::InRange,
-        _ => Kind::Clean,
-    }
-}
-
-// What a call is lent: the sheet's bytes, and the list's columns.
-#[derive(Clone, Copy)]
-pub struct Lent<'a> {
-    pub sheet: &'a [u8],
-    pub columns: &'a [u8],
-}
-
-pub fn lend<'a>(kind: Kind, sheet: &'a [u8], columns: &'a [u8]) -> Lent<'a> {
-    match kind {
-        Kind::Shorter => Lent {
-            sheet,
-            columns: &columns[..columns.len().saturating_sub(1)],
-        },
-        Kind::Cut => Lent {
-            sheet: &sheet[..sheet.len().saturating_sub(1)],
-            columns,
-        },
-        _ => Lent { sheet, columns },
+impl Kind {
+    // What a call is lent for such a list, of all that there is.
+    pub fn lend(self, all: Lent<'_>) -> Lent<'_> {
+        match self {
+            Kind::Shorter => all.shorter(),
+            Kind::Cut => all.cut(),
+            _ => all,
+        }
     }
 }
 
 // List k of sheet n.
-pub fn list_for(kind: Kind, n: u64, k: u8, sheet: &Sheet) -> List {
-    match kind {
-        Kind::Allowed => enumeration::list_of(bits(n, 41, k as usize), sheet),
-        Kind::InRange => draw_list(n, k, sheet, false),
-        Kind::Changed => change(n, k, sheet, draw_list(n, k, sheet, true)),
-        _ => draw_list(n, k, sheet, true),
-    }
+#[derive(Clone, Copy)]
+pub struct Trial<'a> {
+    pub n: u64,
+    pub k: u8,
+    pub sheet: &'a Sheet,
 }
 
-// Another column for one terminal, or for none.
-fn change(n: u64, k: u8, sheet: &Sheet, start: List) -> List {
-    let mut list = start;
-    let t = draw(n, 42, k as usize, 0, ROOM as u8) as usize;
-    if t < ROOM {
-        list[t] = draw(n, 43, k as usize, 0, sheet.columns);
+impl Trial<'_> {
+    // A number that is drawn for this list.
+    fn draw(self, what: u64, range: RangeInclusive<u8>) -> u8 {
+        draw(self.n, what, self.k as usize, range)
     }
-    list
-}
 
-// A list drawn terminal by terminal.
-fn draw_list(n: u64, k: u8, sheet: &Sheet, clean: bool) -> List {
-    let mut list = [0; ROOM];
-    for t in 0..sheet.pins() {
-        let set = choices(sheet, sheet.records[t], &list[..t], clean);
-        list[t] = choose(set, behind(sheet, t), bits(n, 50 + k as u64, t));
-    }
-    list
-}
-
-// The columns to choose from, where those before have theirs: those in range that no other net has, if they are asked for and there are
-// any; else those in range, if there are any; else all that are allowed.
-fn choices(sheet: &Sheet, terminal: Record, before: &[u8], clean: bool) -> u64 {
-    let near = terminal.allowed & in_range(sheet, terminal, before);
-    let free = near & !other_nets(sheet, terminal.net, before);
-    if clean && free != 0 {
-        free
-    } else if near != 0 {
-        near
-    } else {
-        terminal.allowed
-    }
-}
-
-// The columns in range of the pin before on the same side; all where there is none.
-fn in_range(sheet: &Sheet, terminal: Record, before: &[u8]) -> u64 {
-    match before.last() {
-        Some(last) if before.len() != sheet.top as usize => {
-            from(*last, terminal.least) & up_to(*last, terminal.greatest)
+    pub fn kind(self) -> Kind {
+        match self.draw(40, 0..=11) {
+            0 => Kind::Allowed,
+            1 => Kind::Changed,
+            2 => Kind::Shorter,
+            3 => Kind::Cut,
+            4 | 5 => Kind::InRange,
+            _ => Kind::Clean,
         }
-        _ => u64::MAX,
+    }
+
+    pub fn list(self, kind: Kind) -> List {
+        match kind {
+            Kind::Allowed => enumeration::list_of(bits(self.n, 41, self.k as usize), self.sheet),
+            Kind::InRange => self.draw_list(false),
+            Kind::Changed => self.change(self.draw_list(true)),
+            _ => self.draw_list(true),
+        }
+    }
+
+    // Another column for one terminal, or for none.
+    fn change(self, start: List) -> List {
+        let mut list = start;
+        let t = self.draw(42, 0..=ROOM as u8) as usize;
+        if t < ROOM {
+            list[t] = self.draw(43, 0..=self.sheet.columns);
+        }
+        list
+    }
+
+    // A list drawn terminal by terminal.
+    fn draw_list(self, clean: bool) -> List {
+        let sheet = self.sheet;
+        let mut list = [0; ROOM];
+        // by index, since each column is drawn from those that the list has so far
+        for t in 0..sheet.pins() {
+            let next = Next {
+                sheet,
+                terminal: sheet.records[t],
+                before: &list[..t],
+            };
+            list[t] = next.choose(clean, bits(self.n, 50 + self.k as u64, t));
+        }
+        list
+    }
+
+    // Room for too few spans, if there are nets, for as many as there are nets, or for more.
+    pub fn room(self) -> usize {
+        let nets = self.sheet.nets().len();
+        match self.draw(45, 0..=2) {
+            0 => nets.saturating_sub(1),
+            1 => nets,
+            _ => nets + 2,
+        }
+    }
+}
+
+// A terminal that is to have a column, where those before it have theirs.
+#[derive(Clone, Copy)]
+struct Next<'a> {
+    sheet: &'a Sheet,
+    terminal: Record,
+    before: &'a [u8],
+}
+
+impl Next<'_> {
+    // One of the first columns to choose from, by a drawn number: so many that the terminals behind mostly find a column too.
+    fn choose(self, clean: bool, number: u64) -> u8 {
+        let set = self.choices(clean);
+        let few = (set.count_ones() as u64).div_ceil(self.behind() + 1);
+        column(set, number % few.max(1))
+    }
+
+    // The columns to choose from: those in range that no other net has, if they are asked for and there are any; else those in range,
+    // if there are any; else all that are allowed.
+    fn choices(self, clean: bool) -> u64 {
+        let near = self.terminal.allowed & self.in_range();
+        let free = near & !self.other_nets();
+        if clean && free != 0 {
+            free
+        } else if near != 0 {
+            near
+        } else {
+            self.terminal.allowed
+        }
+    }
+
+    // The columns in range of the pin before on the same side; all where there is none.
+    fn in_range(self) -> u64 {
+        let before = self.before;
+        match before.last() {
+            Some(last) if before.len() != self.sheet.top as usize => {
+                from(*last, self.terminal.least) & up_to(*last, self.terminal.greatest)
+            }
+            _ => u64::MAX,
+        }
+    }
+
+    // The columns that pins of other nets have.
+    fn other_nets(self) -> u64 {
+        let mut set = 0;
+        for (other, column) in self.sheet.terminals().iter().zip(self.before) {
+            if other.net != self.terminal.net {
+                set |= single(*column);
+            }
+        }
+        set
+    }
+
+    // How many terminals of the same side stand behind this one.
+    fn behind(self) -> u64
+        ensures { result ≤ 255 }
+    {
+        let t = self.before.len();
+        let top = self.sheet.top as usize;
+        let end = if t < top { top } else { self.sheet.pins() };
+        end.saturating_sub(t).saturating_sub(1) as u64
     }
 }
 
@@ -121,32 +181,4 @@ fn from(before: u8, least: u8) -> u64 {
 // The columns that are at most so many behind one.
 fn up_to(before: u8, greatest: u8) -> u64 {
     full_set(before.saturating_add(greatest))
-}
-
-// The columns that pins of other nets have.
-fn other_nets(sheet: &Sheet, net: u16, before: &[u8]) -> u64 {
-    let mut set = 0;
-    for (other, column) in sheet.terminals().iter().zip(before) {
-        if other.net != net {
-            set |= single(*column);
-        }
-    }
-    set
-}
-
-// How many terminals of the same side stand behind terminal t.
-fn behind(sheet: &Sheet, t: usize) -> u64
-    ensures { result ≤ 255 }
-{
-    let top = sheet.top as usize;
-    let end = if t < top { top } else { sheet.pins() };
-    end.saturating_sub(t).saturating_sub(1) as u64
-}
-
-// One of the first columns of a set, by a drawn number: so many that those behind it mostly find a column too.
-fn choose(set: u64, behind: u64, number: u64) -> u8
-    requires { behind ≤ 255 }
-{
-    let few = (set.count_ones() as u64).div_ceil(behind + 1);
-    column(set, number % few.max(1))
 }

@@ -1,76 +1,60 @@
 // One sheet: the library's answer to each of its cases against the program's own reading of the rule.
-use crate::lists::Lent;
+use crate::answers::Shown;
+use crate::lists::{LISTS, Trial};
 use crate::tally::Tally;
-use crate::{answers, lists};
-use drawn::draw;
-use enumeration::{List, Sheet};
-use fixtures::{Page, Plan, full_set};
+use enumeration::{Pins, Sheet};
+use fixtures::{Lent, Page, Plan, full_set};
 use printing::Columns;
+use std::fmt;
 use std::io::{self, Write};
 
-// A sheet with its number, one of its lists, what of both a call is lent, and room for so many spans.
+// A sheet's number, the sheet with one of its lists, what of both a call is lent, and room for so many spans.
 #[derive(Clone, Copy)]
 pub struct Case<'a> {
     pub n: u64,
-    pub sheet: &'a Sheet,
-    pub list: &'a List,
+    pub pins: Pins<'a>,
     pub lent: Lent<'a>,
     pub room: usize,
 }
 
-fn show_case<W: Write>(out: &mut W, case: &Case) -> io::Result<()> {
-    let columns = Columns(case.lent.columns);
-    write!(
-        out,
-        "sheet {} routed at{columns} with room for {}",
-        case.n, case.room
-    )
+impl fmt::Display for Case<'_> {
+    fn fmt<W: fmt::Write>(&self, f: &mut fmt::Formatter<W>) -> fmt::Result {
+        let columns = Columns(self.lent.columns);
+        write!(
+            f,
+            "sheet {} routed at{columns} with room for {}",
+            self.n, self.room
+        )
+    }
 }
 
 // One call, and what it must answer. The first five that do not are shown.
 fn try_case<W: Write>(out: &mut W, case: &Case, tally: &mut Tally) -> io::Result<()> {
-    let wanted = answers::expected(case);
-    let given = answers::given(case);
-    let wrong = wanted != given || !answers::is_dense(case, &wanted);
+    let wanted = case.expected();
+    let given = case.given();
+    let wrong = wanted != given || !case.is_dense(&wanted);
     if wrong && tally.wrong < 5 {
-        show_case(out, case)?;
-        write!(out, ": expected ")?;
-        answers::show(out, &wanted)?;
-        write!(out, "; route ")?;
-        answers::show(out, &given)?;
-        writeln!(out)?;
+        write!(out, "{case}: expected {}; ", Shown(&wanted))?;
+        writeln!(out, "route {}", Shown(&given))?;
     }
     tally.add(&wanted, wrong);
     Ok(())
 }
 
-// Room for too few spans, if there are nets, for as many as there are nets, or for more.
-fn draw_room(n: u64, k: u8, sheet: &Sheet) -> usize {
-    let nets = sheet.nets().len();
-    match draw(n, 45, k as usize, 0, 2) {
-        0 => nets.saturating_sub(1),
-        1 => nets,
-        _ => nets + 2,
-    }
-}
-
-// List k of sheet n.
-fn try_list<'a, W: Write>(
-    out: &mut W,
-    n: u64,
-    k: u8,
-    sheet: &'a Sheet,
-    page: &'a Page,
-    tally: &mut Tally,
-) -> io::Result<()> {
-    let kind = lists::draw_kind(n, k);
-    let list = lists::list_for(kind, n, k, sheet);
+// One list of a sheet, whose bytes the page has.
+fn try_list<W: Write>(out: &mut W, trial: Trial, page: &Page, tally: &mut Tally) -> io::Result<()> {
+    let Trial { n, sheet, .. } = trial;
+    let kind = trial.kind();
+    let list = trial.list(kind);
+    let all = Lent {
+        sheet: page.sheet(),
+        columns: &list[..sheet.pins()],
+    };
     let case = Case {
         n,
-        sheet,
-        list: &list,
-        lent: lists::lend(kind, page.sheet(), &list[..sheet.pins()]),
-        room: draw_room(n, k, sheet),
+        pins: Pins { sheet, list: &list },
+        lent: kind.lend(all),
+        room: trial.room(),
     };
     try_case(out, &case, tally)
 }
@@ -92,8 +76,13 @@ pub fn try_sheet<W: Write>(out: &mut W, n: u64, tally: &mut Tally) -> io::Result
     let sheet = sheet_of(n, plan);
     let mut page = Page::new();
     drawn::put_sheet(&mut page, plan, &sheet);
-    for k in 0..lists::LISTS {
-        try_list(out, n, k, &sheet, &page, tally)?;
+    for k in 0..LISTS {
+        let trial = Trial {
+            n,
+            k,
+            sheet: &sheet,
+        };
+        try_list(out, trial, &page, tally)?;
     }
     Ok(())
 }

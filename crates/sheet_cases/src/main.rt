@@ -12,6 +12,7 @@ mod show;
 
 fn ask<W: Write>(out: &mut W, s: &[u8], command: Command) -> io::Result<()> {
     let [a, b, c, d, _, _] = command.numbers;
+    // each command has arguments of its own, so a `match` is plainer than a table of closures
     match command.word {
         "heading" => writeln!(out, "{}", command.name),
         // whether the sheet is sound
