@@ -54,14 +54,15 @@ fn take_track(x: Interval, ends: &mut [u8]) -> u16
     (i + 1) as u16
 }
 
-// The first track that ends left of a column, counted from 0. There is one, so that `position` would say too little.
+// The first track that ends left of a column, counted from 0. A `for`, as the proof from what `position` promises is longer.
 fn free_track(ends: &[u8], left: u8) -> usize
     requires { passed ends.now left < length ends.now }
     ensures { result ≡ passed ends.now left }
 {
-    let mut i = 0;
-    while left <= ends[i] {
-        i += 1;
+    for (i, end) in ends.iter().enumerate() {
+        if *end < left {
+            return i;
+        }
     }
-    i
+    ends.len()
 }
