@@ -21,7 +21,7 @@ pub const RULES: usize = 256;
 
 pub const LOADS: usize = 12675;
 
-// The rules of both sides' terminals.
+// The rules of both sides' terminals, flat: one equation says what `put` changes, where an array of arrays would carry two lengths.
 #[derive(Drop)]
 pub struct RuleTable {
     pub words: [u64; RULES],
@@ -64,7 +64,7 @@ pub struct Loads {
     pub both: u8,
 }
 
-// The loads of all cuts.
+// The loads of all cuts, flat for the same reason.
 #[derive(Drop)]
 pub struct LoadTable {
     pub bytes: [u8; LOADS],

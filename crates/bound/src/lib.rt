@@ -48,7 +48,7 @@ pub fn lower_bound(loads: &LoadTable, p: usize, q: usize) -> u8
 {
     let mut rows = [0u8; 65];
     let row = &mut rows[..q + 1];
-    for i in 0..p + 1 {
+    for i in 0..=p {
         next_row(loads, i, row);
     }
     row[q]

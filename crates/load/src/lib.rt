@@ -54,7 +54,7 @@ impl ListedNets<'_> {
             Written s.tops.now s.bottoms.now loads.old.bytes loads.new.bytes
             (λ (x y : ℕ). (x ≡ i) × (y < length s.bottoms.now + 1)) }
     {
-        for j in 0..self.bottoms.len() + 1 {
+        for j in 0..=self.bottoms.len() {
             self.write_cell(i, j, loads);
         }
     }
@@ -63,7 +63,7 @@ impl ListedNets<'_> {
     fn write_table(self, loads: &mut LoadTable)
         ensures { let s = self.entry in LoadsRead s.tops.now s.bottoms.now loads.old.bytes loads.new.bytes }
     {
-        for i in 0..self.tops.len() + 1 {
+        for i in 0..=self.tops.len() {
             self.write_row(i, loads);
         }
     }

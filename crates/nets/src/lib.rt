@@ -55,6 +55,7 @@ impl<'a> Iterator for Distinct<'a> {
     ghost remaining = { item_count nets_left };
 
     fn next(&mut self) -> Option<u16> {
+        // no `for`: what is left stays in the iterator
         while let Some((net, rest)) = self.left.split_first() {
             self.left = rest;
             if !occurs(*net, rest, 0) {

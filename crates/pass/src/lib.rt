@@ -89,6 +89,7 @@ impl Pass<'_> {
         let mut low = failed + 1;
         let mut high: u8 = MOST;
         let mut ahead: u8 = 0;
+        // no `for`: either end of what is left moves by what a pass finds
         while low < high {
             let tried = next_bound(low, high, ahead);
             if self.try_bound(work, tried) {

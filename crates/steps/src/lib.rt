@@ -39,6 +39,7 @@ fn spread(w: u64, width: usize) -> u64
 {
     let mut found = w;
     let mut done: usize = 1;
+    // no `for`: each turn doubles how far it has come
     while done + done <= width {
         found = found | (found << done);
         done = done + done;
@@ -53,6 +54,7 @@ fn one_by_one(w: u64, by: u64) -> u64
     let mut moved = w;
     let mut left = by;
     let mut found: u64 = 0;
+    // no `for`: it ends with the last step, long before 64 turns
     while left != 0 {
         if left % 2 == 1 {
             found = found | moved;

@@ -41,6 +41,7 @@ pub fn fill(work: &mut [u16], filling: Filling, p: usize)
         Filled f.rules.now.words f.loads.now.bytes f.bound f.grid (p + 1) 0 ((p + 1) * f.grid.stride) work.old work.new }
 {
     let mut at = 0;
+    // not `0..=p`, of which the last turn would have to be shown once more
     for i in 0..p + 1 {
         fill_row(work, filling, i, at);
         at += filling.grid.stride;

@@ -23,6 +23,7 @@ pub fn meets(
     ensures { result ≡ meeting work.now grid i j low high next by mask }
 {
     let base = i * grid.stride + j * grid.size;
+    // not `low..=high`, of which the last turn would have to be shown once more
     for x in low..high + 1 {
         if bit(by, next - x) {
             if both(read_word(work, base + 4 * x), mask) != 0 {

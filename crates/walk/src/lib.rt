@@ -155,6 +155,7 @@ impl<'a> Walk<'a> {
             top: 0,
             bottom: 0,
         };
+        // no `for`: the walk itself counts the columns that are left, and a range would count them once more
         while 0 < m.c {
             let letter = self.choose(m);
             put(columns, self.p, letter, m);
