@@ -2,7 +2,7 @@
 -- model says.
 -- Assumes nothing.
 use Rattle.std.proofs.Common.{ℕ, suc, ◌+◌, ◌-◌, ◌≤◌, ◌<◌, ◌≡◌, sym, ◌∙◌, ap, ap₂, List, Bool, false, ◌&&◌, arith, length}
-use mathlib.Core.Bool.{and_assoc, and-false}
+use Rattle.std.proofs.Math.Bool.{and_assoc, and-false}
 use Rattle.channel.specs.Below.{any_below}
 use Rattle.channel.proofs.Below.{any_below_cong, any_below-none, any_below-and, any_below_turn, any_below-from-start, any_below_nested}
 use Rattle.channel.specs.Sheet.{Terminal}

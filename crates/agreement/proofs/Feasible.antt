@@ -1,13 +1,13 @@
 -- All pins can be placed, as the table says it, exactly when they can in the model; so a larger bound places no less.
 -- Assumes nothing.
 use Rattle.std.proofs.Common.{ℕ, zero, suc, ◌+◌, ◌-◌, ◌≤◌, ◌<◌, ◌≡◌, refl, sym, ◌∙◌, ap, List, Bool, true, false, cond, ◌&&◌, arith, length, ltb, eqb, ltb-true, lt-ltb, eqb-true}
-use mathlib.Core.Bool.{and-true, and-eq-true_iff}
-use borrow.Author.Tests.{eqb-false}
+use Rattle.std.proofs.Math.Bool.{and-true, and-eq-true_iff}
+use Rattle.std.proofs.lemmas.Bool.{eqb-false}
+use Rattle.std.specs.Cmp.{both_ways}
 use Rattle.channel.specs.Below.{any_below}
 use Rattle.channel.proofs.Below.{any_below-from, any_below_to}
 use Rattle.channel.specs.Sheet.{Sheet}
 use Rattle.bits.specs.Bits.{in_word}
-use Rattle.bits.proofs.Laws.{same_test}
 use Rattle.entry.specs.Entry.{cell}
 use Rattle.reach.specs.Reach.{reach, feasible}
 use Rattle.reach.proofs.Bounds.{Held, reach-held, feasible_mono}
@@ -23,7 +23,7 @@ pub same_columns :
     → ((x : ℕ) → x < n → f x ≡ true → x + k ≤ c) → ((u : ℕ) → u ≤ c → g u ≡ true → (k ≤ u) × (u - k < n))
     → any_below n f ≡ any_below (suc c) g
 same_columns n k c f g agree left room =
-    same_test (any_below n f) (any_below (suc c) g)
+    both_ways (any_below n f) (any_below (suc c) g)
     (λ e.
     let (x, h, m) = any_below_to n f e in
     let l : x + k ≤ c = left x h m in

@@ -1,16 +1,17 @@
 -- Over a filled table, the letter that the walk chooses for a column is the model's.
 -- Assumes nothing.
 use Rattle.std.proofs.Common.{ℕ, zero, suc, min, ◌+◌, ◌-◌, ◌≤◌, ◌<◌, ◌≡◌, refl, sym, ◌∙◌, ap, ap₂, List, Bool, true, false, cond, ◌&&◌, ◌||◌, arith, add-one, length, leb, ltb, eqb, leb-true, le-leb, ltb-true, lt-ltb, eqb-true, eq-eqb}
-use mathlib.Core.Path.{fun_ext}
-use mathlib.Core.Bool.{and_comm, and_assoc, and-eq-true_iff}
-use borrow.Author.Tests.{eqb-false}
+use Rattle.std.proofs.Math.Bool.{and_comm, and_assoc, and-eq-true_iff}
+use Rattle.std.proofs.Math.Path.{fun_ext}
+use Rattle.std.proofs.lemmas.Bool.{eqb-false}
+use Rattle.std.specs.Cmp.{both_ways}
 use Rattle.channel.specs.Below.{any_below}
 use Rattle.channel.proofs.Below.{any_below_to, any_below-and, any_below_turn}
 use Rattle.channel.specs.Sheet.{Terminal, Sheet}
 use Rattle.channel.specs.Word.{Letter, rank, has_top, has_bottom}
 use Rattle.channel.specs.Word.Letter.{empty, top, bottom}
 use Rattle.bits.specs.Bits.{bit_of, in_word}
-use Rattle.bits.proofs.Laws.{bit-full, word-from, same_test}
+use Rattle.bits.proofs.Laws.{bit-full, word-from}
 use Rattle.table.specs.Planes.{held_at}
 use Rattle.reach.specs.Reach.{near, reach}
 use Rattle.reach.specs.Greedy.{next, last_at, smallest_of, letter_fits, choice}
@@ -63,7 +64,7 @@ side-next {side} {ts} {rules} r n l c i x at all small on h =
 word_at : (f : ℕ → Bool) (k : ℕ) → k < 64 → in_word (λ (y : ℕ). f y && eqb y k) ≡ f k
 unfolding in_word
 word_at f k h =
-    same_test (in_word (λ (y : ℕ). f y && eqb y k)) (f k)
+    both_ways (in_word (λ (y : ℕ). f y && eqb y k)) (f k)
     (λ e.
     let (y, l, m) = any_below_to 64 (λ (y : ℕ). f y && eqb y k) e in
     let (holds, same) = (and-eq-true_iff (f y) (eqb y k)).0 m in

@@ -1,8 +1,9 @@
 -- The table's cells are the model's reach: the places that a table filled by a sheet's rules and loads holds are those that its pins
 -- can reach.
 -- Assumes nothing.
-use Rattle.std.proofs.Common.{ℕ, zero, suc, pred, ◌+◌, ◌≤◌, ◌<◌, ◌≡◌, refl, sym, ◌∙◌, ap, ap₂, List, Bool, true, false, ◌&&◌, ◌||◌, ◌⊎◌, inl, inr, arith, add-zero, length, leb, ltb, ltb-true, ltb-false, lt-ltb, le-ltb, eq-eqb, ne_eqb}
-use mathlib.Core.Bool.{and-false, or-false}
+use Rattle.std.proofs.Common.{ℕ, zero, suc, pred, ◌+◌, ◌≤◌, ◌<◌, ◌≡◌, refl, sym, ◌∙◌, ap, ap₂, List, Bool, false, ◌&&◌, ◌||◌, ◌⊎◌, inl, inr, arith, add-zero, length, leb, ltb, lt-ltb, le-ltb, eq-eqb, ne_eqb}
+use Rattle.std.proofs.Math.Bool.{and-false, or-false}
+use Rattle.std.proofs.lemmas.Bool.{cases_order, false_from_ne_true}
 use Rattle.channel.specs.Sheet.{Sheet}
 use Rattle.arrays.specs.Rules.{range_at, allowed_at}
 use Rattle.arrays.specs.Loads.{load_at}
@@ -14,15 +15,6 @@ use Rattle.reach.proofs.Bounds.{reach-held}
 use Rattle.agreement.specs.Ready.{SheetLoads}
 use Rattle.rules.specs.Sides.{SideRules}
 use Rattle.agreement.proofs.Columns.{one_side, both_sides}
-
--- a column is left of another, right of it, or the same
-order : (a b : ℕ) → (a < b) ⊎ ((b < a) ⊎ (a ≡ b))
-order a b = decide (ltb a b) (ltb b a) refl refl
-  where
-    decide : (s t : Bool) → ltb a b ≡ s → ltb b a ≡ t → (a < b) ⊎ ((b < a) ⊎ (a ≡ b))
-    decide true t e f = inl (ltb-true a b e)
-    decide false true e f = inr (inl (ltb-true b a f))
-    decide false false e f = inr (inr (omega (arith, ltb-false a b e, ltb-false b a f)))
 
 -- only the cell of no pins in no columns is the start
 no_start : (i j x y : ℕ) → (x + i + (y + j) ≡ 0 → ⊥) → start_part i j x y ≡ false
@@ -76,11 +68,7 @@ module _
   where
     -- no last pin stands left of its own number
     short : (i j u v : ℕ) → (i ≤ u → j ≤ v → ⊥) → reach s d i j u v ≡ false
-    short i j u v h = decide (reach s d i j u v) refl
-      where
-        decide : (t : Bool) → reach s d i j u v ≡ t → t ≡ false
-        decide true e = absurd (h (reach-held s d i j u v e).0.room (reach-held s d i j u v e).1.room)
-        decide false e = refl
+    short i j u v h = false_from_ne_true _ (λ e. h (reach-held s d i j u v e).0.room (reach-held s d i j u v e).1.room)
 
     -- the part of an entry that counts is the model's, where the cells of the planes before it are: the one for a top pin alone
     top-reach :
@@ -136,14 +124,14 @@ module _
         → (0 < j → (m : ℕ) → m ≤ y → before x m ≡ reach s d i (pred j) (x + i) (m + pred j))
         → (0 < i → 0 < j → (n m : ℕ) → n ≤ x → m ≤ y → diagonal n m ≡ reach s d (pred i) (pred j) (n + pred i) (m + pred j))
         → entry rules loads d i j above before diagonal x y ≡ reach s d i j (x + i) (y + j)
-    entry-reach i j x y hi hj hx hy above before diagonal a b c = by_order (order (y + j) (x + i))
+    entry-reach i j x y hi hj hx hy above before diagonal a b c = by_order (cases_order (y + j) (x + i))
       where
         by_order :
-            (y + j < x + i) ⊎ ((x + i < y + j) ⊎ (y + j ≡ x + i))
+            (y + j ≡ x + i) ⊎ ((y + j < x + i) ⊎ (x + i < y + j))
             → entry rules loads d i j above before diagonal x y ≡ reach s d i j (x + i) (y + j)
-        by_order (inl h) = entry_top rules loads d i j above before diagonal x y h ∙ top-reach i j x y hi hj hx h above a
-        by_order (inr (inl h)) = entry-bottom rules loads d i j above before diagonal x y h ∙ bottom-reach i j x y hi hj hy h before b
-        by_order (inr (inr e)) = entry-both rules loads d i j above before diagonal x y e ∙ both-reach i j x y hi hj hx hy e diagonal c
+        by_order (inl e) = entry-both rules loads d i j above before diagonal x y e ∙ both-reach i j x y hi hj hx hy e diagonal c
+        by_order (inr (inl h)) = entry_top rules loads d i j above before diagonal x y h ∙ top-reach i j x y hi hj hx h above a
+        by_order (inr (inr h)) = entry-bottom rules loads d i j above before diagonal x y h ∙ bottom-reach i j x y hi hj hy h before b
 
     -- and so is each cell, plane after plane
     pub cell-reach :

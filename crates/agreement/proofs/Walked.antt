@@ -1,8 +1,8 @@
 -- Over a filled table, the walk writes the columns of the model's walk.
 -- Assumes nothing.
 use Rattle.std.proofs.Common.{ℕ, zero, suc, pred, ◌+◌, ◌-◌, ◌≤◌, ◌<◌, ◌≡◌, refl, sym, ◌∙◌, ap, List, [], ◌∷◌, ◌++◌, append-nil, Bool, true, false, cond, ◌&&◌, inl, arith, zero-add, add-zero, le_refl, sub-one, length, drop, set, take_at, drop-drop, ltb, lt-ltb}
-use mathlib.Core.Bool.{and-false}
-use lib.Seq.{set_comm, sets, length-sets, sets-eq, drop-append-add}
+use Rattle.std.proofs.Math.Bool.{and-false}
+use Rattle.std.proofs.Math.Seq.{set_comm, sets, length-sets, sets-eq, drop-append-add}
 use Rattle.channel.specs.Sheet.{Terminal, Sheet}
 use Rattle.channel.specs.Word.{Letter, rank, has_top, has_bottom, columns_with, columns_of}
 use Rattle.channel.specs.Word.Letter.{empty, top, bottom, both}

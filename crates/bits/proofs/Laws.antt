@@ -1,13 +1,12 @@
 -- How the bits of a word go through or, and, shifts and remainders.
 -- Assumes nothing.
-use Rattle.std.proofs.Common.{◌≡◌, ℕ, zero, suc, ◌+◌, ◌-◌, ◌*◌, ◌/◌, ◌%◌, ◌^◌, ◌<◌, ◌≤◌, Bool, true, false, ◌&&◌, ◌||◌, eqb, ltb, leb, ◌⊎◌, bit_and, bit_or, sym, refl, ap, ◌∙◌, inl, inr, true≢false, lt_of_lt_of_le, mul_assoc, div-one, arith, pow_pos, pow_mono, pow-add, shr-shr, ltb-false, ltb-true, eq-eqb, ne_eqb, eqb-true, leb-false, leb-true}
-use native.Mathlib.Nat.{div-eq_of_lt}
-use lib.Bits.{and_mod, or_mod, and_shr, or_shr}
-use lib.Count.{count_trailing_zeros, under}
-use lib.Pow.{shl-shr, field, mod-mod-pow, ones_split, ones_lt, high}
-use borrow.Author.Tests.{eqb-false}
+use Rattle.std.proofs.Common.{◌≡◌, ℕ, zero, suc, ◌+◌, ◌-◌, ◌*◌, ◌/◌, ◌%◌, ◌^◌, ◌<◌, ◌≤◌, Bool, true, false, ◌&&◌, ◌||◌, eqb, ltb, leb, ◌⊎◌, bit_and, bit_or, sym, refl, ap, ◌∙◌, inl, inr, add-zero, arith, w64, pow_pos, shr-shr, ltb-false, ltb-true, eq-eqb, ne_eqb, eqb-true, leb-false, leb-true}
+use Rattle.std.proofs.lemmas.Bool.{eqb-false}
+use Rattle.std.proofs.lemmas.Nat.{and_mod, or_mod, and_shr, or_shr}
+use Rattle.std.proofs.lemmas.Nat.Bits.{bit_at_lowest, bit_at-zero, bit_at_ones, bit_at-trailing_zeros, bit_at_above, bit_at_cat_low, bit_at_cat_high}
+use Rattle.std.specs.Int.{bit_at, trailing_zeros}
+use Rattle.std.specs.Int.Count.{count_trailing_zeros, trailing_of_zero}
 use Rattle.channel.proofs.Below.{any_below_cong, any_below-from, any_below-none}
-use Rattle.channel.proofs.Sets.{bit_of_lem}
 use Rattle.bits.specs.Bits.{bit_of, in_word}
 
 -- the last bit
@@ -50,16 +49,16 @@ bit_of-bit_and a b k = ap odd (and_shr a b k) ∙ odd_and (a / 2 ^ k) (b / 2 ^ k
 
 pub bit_zero : (k : ℕ) → bit_of 0 k ≡ false
 unfolding bit_of
-bit_zero k = ap (λ (n : ℕ). eqb (n % 2) 1) (div-eq_of_lt (pow_pos k))
+bit_zero k = ap (λ (n : ℕ). eqb n 1) (bit_at-zero k)
 
 pub bit-first : (w : ℕ) → bit_of w 0 ≡ eqb (w % 2) 1
 unfolding bit_of
-bit-first w = ap (λ (n : ℕ). eqb (n % 2) 1) (div-one w)
+bit-first w = ap (λ (n : ℕ). eqb n 1) (bit_at_lowest w)
 
 -- a number below 2 ^ m has no bit from m on
 pub bit_high : (w m k : ℕ) → w < 2 ^ m → m ≤ k → bit_of w k ≡ false
 unfolding bit_of
-bit_high w m k h g = ap (λ (n : ℕ). eqb (n % 2) 1) (div-eq_of_lt (lt_of_lt_of_le h (pow_mono g)))
+bit_high w m k h g = ap (λ (n : ℕ). eqb n 1) (bit_at_above w m k h g)
 
 pub bit_shr : (a e k : ℕ) → bit_of (a / 2 ^ e) k ≡ bit_of a (e + k)
 unfolding bit_of
@@ -68,46 +67,22 @@ bit_shr a e k = ap (λ (n : ℕ). eqb (n % 2) 1) (shr-shr a e k)
 -- a remainder by 2 ^ 64 keeps the bits below 64
 pub bit-mod : (n k : ℕ) → k < 64 → bit_of (n % 2 ^ 64) k ≡ bit_of n k
 unfolding bit_of
-bit-mod n k h = ap (λ (m : ℕ). eqb m 1) (ap (λ (m : ℕ). m % 2) cut ∙ mod-mod-pow (n / 2 ^ k) (63 - k) 1)
-  where
-    size : 64 ≡ (63 - k) + 1 + k
-    size = omega arith
-
-    cut : n % 2 ^ 64 / 2 ^ k ≡ n / 2 ^ k % 2 ^ (63 - k + 1)
-    cut = ap (λ (m : ℕ). n % 2 ^ m / 2 ^ k) size ∙ field n (63 - k + 1) k
+bit-mod n k h =
+    let whole : n / 2 ^ 64 * 2 ^ 64 + n % 2 ^ 64 ≡ n = omega arith in
+    ap (λ (m : ℕ). eqb m 1) (sym (bit_at_cat_low (n / 2 ^ 64) 64 (n % 2 ^ 64) k h) ∙ ap (λ (m : ℕ). bit_at m k) whole)
 
 -- a number shifted up by e
 bit_times : (a e k : ℕ) → bit_of (a * 2 ^ e) k ≡ (leb e k && bit_of a (k - e))
 unfolding bit_of
 bit_times a e k = by-test (leb e k) refl
   where
-    by-test : (b : Bool) → leb e k ≡ b → eqb (a * 2 ^ e / 2 ^ k % 2) 1 ≡ (b && eqb (a / 2 ^ (k - e) % 2) 1)
-    by-test true t = ap (λ (n : ℕ). eqb (n % 2) 1) up
-      where
-        le : e ≤ k
-        le = leb-true e k t
-
-        up : a * 2 ^ e / 2 ^ k ≡ a / 2 ^ (k - e)
-        up =
-            ap (λ (m : ℕ). a * 2 ^ e / 2 ^ m) (omega (arith, le))
-            ∙ sym (shr-shr (a * 2 ^ e) e (k - e))
-            ∙ ap (λ (n : ℕ). n / 2 ^ (k - e)) (shl-shr a e)
-    by-test false t = ap (λ (n : ℕ). eqb n 1) even
-      where
-        lt : k < e
-        lt = leb-false e k t
-
-        exponent : e ≡ (e - k - 1) + 1 + k
-        exponent = omega (arith, lt)
-
-        down : a * 2 ^ e / 2 ^ k ≡ a * 2 ^ (e - k - 1) * 2
-        down =
-            ap (λ (m : ℕ). a * 2 ^ m / 2 ^ k) exponent
-            ∙ ap (λ (n : ℕ). n / 2 ^ k) (rw (pow-add 2 (e - k - 1 + 1) k, pow-add 2 (e - k - 1) 1) (simp mul_assoc))
-            ∙ shl-shr (a * 2 ^ (e - k - 1) * 2) k
-
-        even : a * 2 ^ e / 2 ^ k % 2 ≡ 0
-        even = ap (λ (n : ℕ). n % 2) down ∙ omega arith
+    by-test : (b : Bool) → leb e k ≡ b → eqb (bit_at (a * 2 ^ e) k) 1 ≡ (b && eqb (bit_at a (k - e)) 1)
+    by-test true t =
+        ap (λ (n : ℕ). eqb n 1)
+        (ap (λ (n : ℕ). bit_at n k) (sym (add-zero (a * 2 ^ e))) ∙ bit_at_cat_high a e 0 k (pow_pos e) (leb-true e k t))
+    by-test false t =
+        ap (λ (n : ℕ). eqb n 1)
+        (ap (λ (n : ℕ). bit_at n k) (sym (add-zero (a * 2 ^ e))) ∙ bit_at_cat_low a e 0 k (leb-false e k t) ∙ bit_at-zero k)
 
 pub bit_shl : (a e k : ℕ) → k < 64 → bit_of (a * 2 ^ e % 2 ^ 64) k ≡ (leb e k && bit_of a (k - e))
 bit_shl a e k h = bit-mod (a * 2 ^ e) k h ∙ bit_times a e k
@@ -115,15 +90,7 @@ bit_shl a e k h = bit-mod (a * 2 ^ e) k h ∙ bit_times a e k
 -- the bits of 2 ^ m - 1
 pub bit-ones : (m k : ℕ) → k < m → bit_of (2 ^ m - 1) k ≡ true
 unfolding bit_of
-bit-ones m k h =
-    eq-eqb _ 1 (ap (λ (n : ℕ). n % 2)
-    (ap (λ (e : ℕ). (2 ^ e - 1) / 2 ^ k) size ∙ ap (λ (n : ℕ). n / 2 ^ k) (ones_split (m - k - 1 + 1) k) ∙ high _ k (ones_lt k)) ∙ last)
-  where
-    size : m ≡ (m - k - 1) + 1 + k
-    size = omega arith
-
-    last : (2 ^ (m - k - 1 + 1) - 1) % 2 ≡ 1
-    last = ap (λ (n : ℕ). n % 2) (ones_split (m - k - 1) 1) ∙ omega arith
+bit-ones m k h = eq-eqb _ 1 (bit_at_ones m k h)
 
 -- the set of k alone
 pub bit_one : (m : ℕ) → bit_of 1 m ≡ eqb m 0
@@ -182,44 +149,16 @@ bit-from k n h = bit_shl (18446744073709551615 / 2 ^ k) k n h ∙ by-test (leb k
 pub some_bit : (w : ℕ) → w < 2 ^ 64 → (w ≡ 0 → ⊥) → (k : ℕ) × (k < 64) × (bit_of w k ≡ true)
 unfolding bit_of
 some_bit w h nz =
-    let (k, e) = bit_of_lem w (omega (arith, nz)) in
-    (k, below k e (leb 64 k) refl, eq-eqb _ 1 e)
-  where
-    below : (k : ℕ) → w / 2 ^ k % 2 ≡ 1 → (b : Bool) → leb 64 k ≡ b → k < 64
-    below k e true t = absurd (true≢false (sym (eq-eqb _ 1 e) ∙ bit_high w 64 k h (leb-true 64 k t)))
-    below k e false t = leb-false 64 k t
+    let set = bit_at-trailing_zeros w64 w (omega (arith, nz)) h in
+    (trailing_zeros w64 w, set.0, eq-eqb _ 1 set.1)
 
 -- a word's lowest bit stands above its trailing zeros
-bit_half : (w k : ℕ) → bit_of w (suc k) ≡ bit_of (w / 2) k
-bit_half w k = ap (bit_of w) (omega arith) ∙ sym (bit_shr w 1 k)
-
-pub trailing_bit : (d w : ℕ) → count_trailing_zeros d w < d → bit_of w (count_trailing_zeros d w) ≡ true
-unfolding count_trailing_zeros
-trailing_bit zero w h = absurd (omega arith)
-trailing_bit (suc d) w h = by-digit (w % 2) refl h (trailing_bit d (w / 2))
-  where
-    rest : ℕ
-    rest = count_trailing_zeros d (w / 2)
-
-    by-digit : (r : ℕ) → w % 2 ≡ r → under r rest < suc d → (rest < d → bit_of (w / 2) rest ≡ true) → bit_of w (under r rest) ≡ true
-    by-digit zero e l more = bit_half w rest ∙ more (omega arith)
-    by-digit (suc r) e l more = bit-first w ∙ eq-eqb (w % 2) 1 (omega arith)
-
-pub trailing_none : (d w k : ℕ) → k < count_trailing_zeros d w → bit_of w k ≡ false
-unfolding count_trailing_zeros
-trailing_none zero w k h = absurd (omega arith)
-trailing_none (suc d) w k h = by-digit (w % 2) refl k h (trailing_none d (w / 2))
-  where
-    rest : ℕ
-    rest = count_trailing_zeros d (w / 2)
-
-    by-digit : (r : ℕ) → w % 2 ≡ r → (m : ℕ) → m < under r rest → ((i : ℕ) → i < rest → bit_of (w / 2) i ≡ false) → bit_of w m ≡ false
-    by-digit zero e zero l more = bit-first w ∙ ne_eqb (w % 2) 1 (λ o. omega arith)
-    by-digit zero e (suc m) l more = bit_half w m ∙ more m (omega arith)
-    by-digit (suc r) e m l more = absurd (omega arith)
-
--- tests that say the same
-pub same_test : (a b : Bool) → (a ≡ true → b ≡ true) → (b ≡ true → a ≡ true) → a ≡ b
-same_test true b f g = sym (f refl)
-same_test false true f g = g refl
-same_test false false f g = refl
+pub lowest_bit :
+    (w : ℕ) → w < 2 ^ 64
+    → (count_trailing_zeros 64 w < 64 → bit_of w (count_trailing_zeros 64 w) ≡ true)
+    × ((n : ℕ) → n < count_trailing_zeros 64 w → bit_of w n ≡ false)
+unfolding bit_of
+lowest_bit zero h = (λ l. absurd (omega (arith, trailing_of_zero 64)), λ n l. bit_zero n)
+lowest_bit (suc w) h =
+    let set = bit_at-trailing_zeros w64 (suc w) (omega arith) h in
+    (λ l. eq-eqb _ 1 set.1, λ n l. ap (λ (d : ℕ). eqb d 1) (set.2 n l))

@@ -1,9 +1,9 @@
 -- Laws of the lower bound: how it comes from those before it, why no bound below it places the pins (a place that is reached under a
 -- bound was reached from the planes before it, and its load is within the bound), and the row of it that the code keeps.
 -- Assumes nothing.
-use Rattle.std.proofs.Common.{ℕ, zero, suc, ◌+◌, ◌-◌, ◌≤◌, ◌<◌, min, max, ◌≡◌, refl, ◌∙◌, ap, List, Bool, true, false, ◌&&◌, ◌⊎◌, inl, inr, arith, length, get_or, set, length-set, get_or-set_same, get_or-set_other, leb, ltb, eqb, ltb-true, ltb-false, le-ltb, eq-eqb, ne_eqb, eqb-true}
-use mathlib.Core.Bool.{and-false}
-use borrow.Author.Tests.{lt-leb, eqb-false}
+use Rattle.std.proofs.Common.{ℕ, zero, suc, ◌+◌, ◌-◌, ◌≤◌, ◌<◌, min, max, ◌≡◌, refl, ◌∙◌, ap, List, Bool, true, false, ◌&&◌, ◌⊎◌, inl, inr, sub-one, arith, length, get_or, set, length-set, get_or-set_same, get_or-set_other, leb, ltb, eqb, ltb-true, ltb-false, le-ltb, eq-eqb, ne_eqb, eqb-true}
+use Rattle.std.proofs.Math.Bool.{and-false}
+use Rattle.std.proofs.lemmas.Bool.{lt-leb, eqb-false}
 use Rattle.channel.specs.Below.{any_below}
 use Rattle.channel.proofs.Below.{any_below-none}
 use Rattle.bits.specs.Bits.{bit_of}
@@ -12,9 +12,6 @@ use Rattle.arrays.specs.Loads.{load_at}
 use Rattle.entry.specs.Entry.{top_part, bottom_part, both_part, entry, alone, bottoms_only, with_tops, cell}
 use Rattle.bound.specs.LowerBound.{top_last, bottom_last, both_last, lowest, bottoms_lowest, tops_lowest, lower_bound}
 
-one_less : (n : ℕ) → suc n - 1 ≡ n
-one_less n = omega arith
-
 -- the lower bound from those before it; a pin that is not there leaves what stands in its place open
 module _ (loads : List ℕ) where
   pub bound_step :
@@ -22,10 +19,10 @@ module _ (loads : List ℕ) where
       → (0 < i → 0 < j → diagonal ≡ lower_bound loads (i - 1) (j - 1)) → lowest loads i j above before diagonal ≡ lower_bound loads i j
   unfolding lower_bound bottoms_lowest tops_lowest lowest
   bound_step zero zero above before diagonal a b d = refl
-  bound_step zero (suc j) above before diagonal a b d = rw (b (omega arith), one_less j) refl
-  bound_step (suc i) zero above before diagonal a b d = rw (a (omega arith), one_less i) refl
+  bound_step zero (suc j) above before diagonal a b d = rw (b (omega arith), sub-one (suc j)) refl
+  bound_step (suc i) zero above before diagonal a b d = rw (a (omega arith), sub-one (suc i)) refl
   bound_step (suc i) (suc j) above before diagonal a b d =
-      rw (a (omega arith), b (omega arith), d (omega arith) (omega arith), one_less i, one_less j) refl
+      rw (a (omega arith), b (omega arith), d (omega arith) (omega arith), sub-one (suc i), sub-one (suc j)) refl
 
 -- which pins there are
 module _ (loads : List ℕ) (i j a b d : ℕ) where

@@ -1,7 +1,8 @@
 -- An assignment and its word are the same thing: each is made from the other, and the way there and back changes nothing.
 -- Assumes nothing.
 use Rattle.std.proofs.Common.{◌≡◌, ℕ, suc, ◌+◌, ◌≤◌, Bool, true, false, ◌&&◌, leb, List, [], ◌∷◌, length, refl, ap, zero-le, arith, take-append-drop, take_at, drop_at, leb-true}
-use mathlib.Core.Bool.{false≢true, and-eq-true_iff}
+use Rattle.std.proofs.Math.Bool.{and-eq-true_iff}
+use Rattle.std.proofs.lemmas.Bool.{false≢true}
 use Rattle.channel.specs.Sheet.{Terminal, Sheet, Sound, SoundFrom}
 use Rattle.channel.specs.Assignment.{allows, in_range, later_fit, side_fits, fits, top_columns, bottom_columns, is_assignment}
 use Rattle.channel.specs.Word.{Letter, has_top, has_bottom, word, columns_with, columns_of}

@@ -2,8 +2,8 @@
 -- the number, two numbers in either order, and a start before which no number meets it.
 -- Assumes nothing.
 use Rattle.std.proofs.Common.{◌≡◌, ℕ, zero, suc, ◌+◌, ◌<◌, Bool, true, false, ◌&&◌, ◌||◌, eqb, sym, refl, ap, ◌∙◌, ap₂, true≢false, suc-add, zero-add, arith, eqb-true}
-use mathlib.Core.Bool.{and-false, or-true}
-use borrow.Author.Tests.{eqb-false}
+use Rattle.std.proofs.Math.Bool.{and-false, or-true}
+use Rattle.std.proofs.lemmas.Bool.{eqb-false}
 use Rattle.channel.specs.Below.{any_below}
 
 -- tests that agree below n

@@ -1,6 +1,7 @@
 -- Demand 2: what `best` finds is the best assignment of a sheet, and it finds none exactly when there is no assignment.
 -- Assumes nothing.
 use Rattle.std.proofs.Common.{◌≡◌, ℕ, ◌<◌, ◌≤◌, Bool, true, false, cond, leb, ◌↔◌, List, [], ◌∷◌, sym, refl, ◌∙◌, subst, true≢false, arith, leb-false, leb-true}
+use Rattle.std.proofs.lemmas.Bool.{false_from_ne_true}
 use mathlib.Core.List.{Memᴰ}
 use Rattle.channel.specs.Sheet.{Sheet, Sound}
 use Rattle.channel.specs.Assignment.{is_assignment}
@@ -96,11 +97,8 @@ module _ (s : Sheet) (sound : Sound s) where
 
   -- no word fits: no column list is an assignment
   none_answers : Outcome s (words s.columns) none → (es : List ℕ) → is_assignment s es ≡ false
-  none_answers r es = refuse (is_assignment s es) refl
-    where
-      refuse : (t : Bool) → is_assignment s es ≡ t → t ≡ false
-      refuse false q = refl
-      refuse true q = absurd (true≢false (sym (fits_word s sound es q) ∙ r (word s es) (word_member es)))
+  none_answers r es =
+      false_from_ne_true _ (λ q. true≢false (sym (fits_word s sound es q) ∙ r (word s es) (word_member es)))
 
   -- the best of the words gives the best of the assignments
   found_answers : (d : ℕ) (cs : List ℕ) → FirstLeast s (words s.columns) d cs → IsBest s d cs

@@ -1,7 +1,7 @@
 -- A word and its columns: rising columns are those of the word made from them, and a word is the one made from its columns.
 -- Assumes nothing.
 use Rattle.std.proofs.Common.{◌≡◌, ℕ, zero, suc, ◌<◌, ◌≤◌, Bool, true, false, cond, ◌||◌, eqb, leb, List, [], ◌∷◌, ◌++◌, length, sym, refl, ap, ◌∙◌, append-nil, zero-le, arith, eq-eqb, ne_eqb, leb-false, leb-true}
-use mathlib.Core.Bool.{or_assoc, or-false}
+use Rattle.std.proofs.Math.Bool.{or_assoc, or-false}
 use Rattle.channel.specs.Density.{any}
 use Rattle.channel.specs.Word.{Letter, has_top, has_bottom, letter, word_of, columns_with}
 use Rattle.channel.specs.Word.Letter.{empty, top, bottom, both}

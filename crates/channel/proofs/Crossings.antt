@@ -2,8 +2,8 @@
 -- leaving net crosses, and the density with no terminals.
 -- Assumes nothing.
 use Rattle.std.proofs.Common.{◌≡◌, ℕ, zero, suc, Bool, true, false, cond, ◌&&◌, ◌||◌, eqb, ltb, leb, List, [], ◌∷◌, ◌++◌, length, refl, arith, ltb-false, ltb-true, ne_eqb, eqb-true, le-leb}
-use mathlib.Core.Bool.{and-false, and-true, or_comm, or_self, or-true, or-false}
-use borrow.Author.Tests.{lt-leb, eqb-false}
+use Rattle.std.proofs.Math.Bool.{and-false, and-true, or_comm, or_self, or-true, or-false}
+use Rattle.std.proofs.lemmas.Bool.{lt-leb, eqb-false}
 use Rattle.kind.specs.declared.Kind.{Kind}
 use Rattle.kind.specs.declared.Kind.TheVariants.{Plain, Left, Right, BothEnds}
 use Rattle.kind.specs.Kinds.{kind_of}

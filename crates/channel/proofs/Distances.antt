@@ -1,9 +1,9 @@
 -- What the amount of a distance says: 0 exactly in range, else by how many columns the distance breaks a bound, and which.
 -- Assumes nothing.
 use Rattle.std.proofs.Common.{◌≡◌, ℕ, zero, suc, ◌+◌, ◌-◌, ◌<◌, ◌≤◌, Bool, true, false, ltb, leb, pos, negsuc, ◌-ℤ◌, neg_ℤ, nat_abs, sym, refl, ap, arith, ltb→lt, lt→ltb, le-ltb, lt-ltb, le-leb, leb-false, leb-true}
-use mathlib.Core.Bool.{and-eq-true_iff}
-use lib.Signed.{lt_z_yes}
-use lib.IntN.{pos-ne-negsuc}
+use Rattle.std.proofs.Math.Bool.{and-eq-true_iff}
+use Rattle.std.proofs.Math.IntN.{pos-ne-negsuc}
+use Rattle.std.specs.Int.Signed.{lt_z_yes}
 use Rattle.channel.specs.Assignment.{in_range}
 use Rattle.channel.specs.Distance.{distance, amount, Says}
 

@@ -1,9 +1,10 @@
 -- The load lemma: the density of a word's columns is the greatest load of the word's occupied columns.
 -- Assumes nothing.
-use Rattle.std.proofs.Common.{◌≡◌, ℕ, zero, suc, ◌+◌, ◌≤◌, max, Bool, true, false, cond, ◌||◌, eqb, ltb, List, [], ◌∷◌, ◌++◌, length, take, drop, sym, refl, ap, ◌∙◌, ap₂, append_assoc, append-nil, le_trans, le_refl, add-one, arith, take-append-drop, drop-drop, le-ltb, lt-ltb, eq-eqb, ne_eqb}
-use mathlib.Core.Path.{fun_ext}
-use mathlib.Core.Bool.{or-true, or-false, false≢true}
-use native.Mathlib.Nat.{le-max_left, le-max_right}
+use Rattle.std.proofs.Common.{◌≡◌, ℕ, suc, ◌+◌, ◌≤◌, max, Bool, true, false, cond, ◌||◌, eqb, ltb, List, [], ◌∷◌, ◌++◌, length, take, drop, sym, refl, ap, ◌∙◌, ap₂, append_assoc, append-nil, le_trans, le_refl, add-one, arith, take-append-drop, take-add, drop-drop, le-ltb, lt-ltb, eq-eqb, ne_eqb}
+use Rattle.std.proofs.Math.Bool.{or-true, or-false}
+use Rattle.std.proofs.Math.Nat.{le-max_left, le-max_right}
+use Rattle.std.proofs.Math.Path.{fun_ext}
+use Rattle.std.proofs.lemmas.Bool.{false≢true}
 use Rattle.kind.specs.declared.Kind.{Kind}
 use Rattle.kind.specs.Kinds.{kind_of, leaves_left, leaves_right}
 use Rattle.channel.specs.Sheet.{Terminal, Sheet}
@@ -78,12 +79,7 @@ next_right false i ns = refl
 
 -- left of it and in it stands what is at or left of it
 next_here : (h : Bool) (i : ℕ) (ns : List ℕ) → left_of h (cond h (suc i) i) ns ++ here_of h (cond h (suc i) i) ns ≡ take (cond h (suc i) i) ns
-next_here true i ns = take_more i ns
-  where
-    take_more : (i : ℕ) (ns : List ℕ) → take i ns ++ take 1 (drop i ns) ≡ take (suc i) ns
-    take_more zero ns = refl
-    take_more (suc i) [] = refl
-    take_more (suc i) (n ∷ ns) = ap (λ (ms : List ℕ). n ∷ ms) (take_more i ns)
+next_here true i ns = rw add-one at (sym (take-add i 1 ns))
 next_here false i ns = append-nil (take i ns)
 
 -- the column of letter a, with i top and j bottom pins left of it, and so x and y at or left of it

@@ -1,8 +1,8 @@
 -- Words with their empty letters taken out or put in front: the pins and the load stay the same.
 -- Assumes nothing.
 use Rattle.std.proofs.Common.{◌≡◌, ℕ, zero, suc, ◌+◌, ◌-◌, ◌≤◌, Bool, true, false, cond, ◌||◌, List, [], ◌∷◌, ◌++◌, length, replicate, refl, ◌∙◌, append-nil, arith, length-append}
-use native.Mathlib.Nat.{zero-max}
-use lib.ListN.{length-replicate}
+use Rattle.std.proofs.Math.ListN.{length-replicate}
+use Rattle.std.proofs.Math.Nat.{zero-max}
 use Rattle.channel.specs.Sheet.{Sheet}
 use Rattle.channel.specs.Word.{Letter, has_top, has_bottom, columns_with}
 use Rattle.channel.specs.Word.Letter.{empty, top, bottom, both}

@@ -2,9 +2,9 @@
 -- the same one.
 -- Assumes nothing.
 use Rattle.std.proofs.Common.{◌≡◌, ℕ, ◌+◌, ◌-◌, ◌≤◌, Bool, true, false, cond, List, [], ◌∷◌, ◌++◌, length, replicate, sym, refl, ap, ◌∙◌, arith, length-append}
-use mathlib.Core.List.{map-append}
-use mathlib.Core.Bool.{false≢true}
-use lib.ListN.{length-replicate, length-map}
+use Rattle.std.proofs.Math.ListN.{length-replicate, length-map}
+use Rattle.std.proofs.lemmas.Bool.{false≢true}
+use Rattle.std.proofs.lemmas.List.{map-append}
 use Rattle.channel.specs.Sheet.{Terminal, Sheet, Sound}
 use Rattle.channel.specs.Assignment.{side_fits, fits, is_assignment}
 use Rattle.channel.specs.Density.{nets_of, density}

@@ -1,7 +1,8 @@
 -- The columns of a word rise from the left, and a word's pins split at a column into those left of it, in it and right of it.
 -- Assumes nothing.
-use Rattle.std.proofs.Common.{◌≡◌, ℕ, zero, suc, ◌+◌, ◌<◌, ◌≤◌, Bool, true, false, cond, ◌&&◌, ◌||◌, eqb, List, [], ◌∷◌, ◌++◌, length, take, drop, sym, refl, ◌∙◌, append_assoc, append-nil, le_refl, add-one, arith, length-append, length-drop, length-take, drop-drop, take_at, drop_at}
-use mathlib.Core.Bool.{or_assoc, or-true, and-true, and-false, and-or_distrib_left}
+use Rattle.std.proofs.Common.{◌≡◌, ℕ, suc, ◌+◌, ◌<◌, ◌≤◌, Bool, true, false, cond, ◌&&◌, ◌||◌, eqb, List, [], ◌∷◌, ◌++◌, length, take, drop, sym, refl, ◌∙◌, append_assoc, append-nil, le_refl, add-one, arith, length-append, length-drop, length-take, drop-drop, take_at, drop_at}
+use Rattle.std.proofs.Math.Bool.{or_assoc, or-true, and-true, and-false, and-or_distrib_left}
+use Rattle.std.proofs.lemmas.List.{take-map, drop-map}
 use Rattle.channel.specs.Sheet.{Terminal, Sheet}
 use Rattle.channel.specs.Density.{any, pins, some_pin}
 use Rattle.channel.specs.Word.{Letter, has_top, has_bottom, columns_with, columns_of}
@@ -97,18 +98,8 @@ lengths_cut false c ts xs ys e =
     simp (length-take, length-drop) (omega arith)
 
 -- the nets of a stretch are that stretch of the nets
-nets-take : (i : ℕ) (ts : List Terminal) → nets (take i ts) ≡ take i (nets ts)
-nets-take zero ts = refl
-nets-take (suc i) [] = refl
-nets-take (suc i) (t ∷ ts) = rw (nets-take i ts)
-
-nets-drop : (i : ℕ) (ts : List Terminal) → nets (drop i ts) ≡ drop i (nets ts)
-nets-drop zero ts = refl
-nets-drop (suc i) [] = refl
-nets-drop (suc i) (t ∷ ts) = nets-drop i ts
-
 nets_here : (h : Bool) (i : ℕ) (ts : List Terminal) → nets (here_of h i ts) ≡ here_of h i (nets ts)
-nets_here true i ts = rw (nets-take, nets-drop)
+nets_here true i ts = rw (drop-map, take-map)
 nets_here false i ts = refl
 
 -- a test of columns with one value left of a column, one in it and one right of it
@@ -138,9 +129,9 @@ some_pin-cut f c m x y z test h ts xs ys r q e n =
       some_pin_same f n x 0 c (left_of h i ts) xs r in_left (λ k p s. test.left k (omega arith)),
       some_pin_same f n y c (suc c) (here_of h i ts) (cond h (suc c ∷ []) []) (rises_here h c) in-here here,
       some_pin_same f n z (suc c) m (right_of i ts) ys q in_right (λ k p s. test.right k p),
-      nets-take,
+      take-map,
       nets_here,
-      nets-drop,
+      drop-map (λ (t : Terminal). t.net) i ts,
     )
 
 -- the same of the word v ++ (a ∷ u), whose letter a stands in column suc (length u)

@@ -1,9 +1,10 @@
 -- Laws of allowed sets: which columns a set names, and that `names_above` says what its name says.
 -- Assumes nothing.
-use Rattle.std.proofs.Common.{◌≡◌, ℕ, zero, suc, ◌+◌, ◌-◌, ◌*◌, ◌/◌, ◌%◌, ◌^◌, ◌<◌, ◌≤◌, Bool, true, false, not, eqb, leb, ◌↔◌, sym, refl, ap, ◌∙◌, true≢false, lt_of_lt_of_le, div-lt_iff_lt-mul, le-div_iff_mul-le, div-one, arith, pow_pos, pow_mono, shr-shr, eq-eqb, ne_eqb, eqb-true, leb-false, leb-true}
-use native.Mathlib.Nat.{div-eq_of_lt}
-use lib.Arith.{bin_ind}
-use borrow.Author.Tests.{eqb-false}
+use Rattle.std.proofs.Common.{◌≡◌, ℕ, zero, suc, ◌+◌, ◌-◌, ◌*◌, ◌/◌, ◌%◌, ◌^◌, ◌<◌, ◌≤◌, Bool, true, false, not, eqb, leb, ◌↔◌, sym, refl, ap, ◌∙◌, true≢false, div-lt_iff_lt-mul, le-div_iff_mul-le, div-one, arith, pow_pos, shr-shr, eq-eqb, ne_eqb, eqb-true, leb-false, leb-true}
+use Rattle.std.proofs.Math.Arith.{bin_ind}
+use Rattle.std.proofs.Math.Nat.{div-eq_of_lt}
+use Rattle.std.proofs.lemmas.Bool.{eqb-false, true_from_ne_false}
+use Rattle.std.proofs.lemmas.Nat.Bits.{bit_at_above}
 use Rattle.channel.specs.Sheet.{names_above}
 use Rattle.channel.specs.Assignment.{allows}
 
@@ -15,10 +16,7 @@ allows_at set (suc c) h = ap (λ (k : ℕ). eqb (set / 2 ^ k % 2) 1) (omega arit
 -- a set below 2 ^ l names no column above l
 pub allows-below : (set l c : ℕ) → set < 2 ^ l → l < c → allows set c ≡ false
 allows-below set l zero h k = elim k [ ]
-allows-below set l (suc c) h k = ap (λ (n : ℕ). eqb (n % 2) 1) (div-eq_of_lt (lt_of_lt_of_le h (pow_mono k')))
-  where
-    k' : l ≤ c
-    k' = omega arith
+allows-below set l (suc c) h k = ap (λ (n : ℕ). eqb n 1) (bit_at_above set l c h (omega arith))
 
 -- an allowed column of a set that names none above l is one of the columns 1 to l
 pub allowed-column : (l set c : ℕ) → allows set c ≡ true → names_above l set ≡ false → (1 ≤ c) × (c ≤ l)
@@ -45,7 +43,7 @@ names_above_quotient l set = by-test (leb (2 ^ l) set) refl
     by-test false e = rw (div-eq_of_lt (leb-false _ _ e)) (sym e)
 
 -- a number that is not 0 has a bit
-pub bit_of_lem : (m : ℕ) → 0 < m → (k : ℕ) × (m / 2 ^ k % 2 ≡ 1)
+bit_of_lem : (m : ℕ) → 0 < m → (k : ℕ) × (m / 2 ^ k % 2 ≡ 1)
 bit_of_lem = bin_ind (λ (m : ℕ). 0 < m → (k : ℕ) × (m / 2 ^ k % 2 ≡ 1)) (λ h. absurd (omega arith)) step
   where
     step : (m : ℕ) → (0 < m / 2 → (k : ℕ) × (m / 2 / 2 ^ k % 2 ≡ 1)) → 0 < m → (k : ℕ) × (m / 2 ^ k % 2 ≡ 1)
@@ -57,13 +55,12 @@ bit_of_lem = bin_ind (λ (m : ℕ). 0 < m → (k : ℕ) × (m / 2 ^ k % 2 ≡ 1)
 
 -- the test behind 8 is true exactly when the set names some column above l
 pub names_above_exactly : (l set : ℕ) → (names_above l set ≡ true) ↔ ((c : ℕ) × (l < c) × (allows set c ≡ true))
-names_above_exactly l set = (there, λ w. by-test w (leb (2 ^ l) set) refl)
+names_above_exactly l set = (there, λ w. true_from_ne_false _ (back w))
   where
     there : names_above l set ≡ true → (c : ℕ) × (l < c) × (allows set c ≡ true)
     there e =
         let (k, p) = bit_of_lem (set / 2 ^ l) ((le-div_iff_mul-le (pow_pos l)).1 (omega (arith, leb-true (2 ^ l) set e))) in
         (suc (l + k), omega arith, eq-eqb (set / 2 ^ (l + k) % 2) 1 (rw (← shr-shr set l k) p))
 
-    by-test : ((c : ℕ) × (l < c) × (allows set c ≡ true)) → (b : Bool) → leb (2 ^ l) set ≡ b → leb (2 ^ l) set ≡ true
-    by-test w true e = e
-    by-test (c, h, a) false e = absurd (true≢false (sym a ∙ allows-below set l c (leb-false _ _ e) h))
+    back : ((c : ℕ) × (l < c) × (allows set c ≡ true)) → leb (2 ^ l) set ≡ false → ⊥
+    back (c, h, a) e = true≢false (sym a ∙ allows-below set l c (leb-false _ _ e) h)

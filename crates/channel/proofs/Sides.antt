@@ -1,7 +1,7 @@
 -- Which columns fit one side: what fits a side fits the side loosened, and rising columns fit a side whose sets and ranges say nothing.
 -- Assumes nothing.
 use Rattle.std.proofs.Common.{◌≡◌, ℕ, ◌+◌, ◌≤◌, Bool, true, false, List, [], ◌∷◌, length, sym, refl, ◌∙◌, arith, le-leb}
-use mathlib.Core.Bool.{and-eq-true_iff}
+use Rattle.std.proofs.Math.Bool.{and-eq-true_iff}
 use Rattle.channel.specs.Sheet.{Terminal}
 use Rattle.channel.specs.Assignment.{allows, later_fit, side_fits}
 use Rattle.channel.specs.Word.{Letter, columns_with}

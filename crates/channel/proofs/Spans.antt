@@ -1,9 +1,9 @@
 -- How far a net reaches decides which columns it crosses, and a sum over the terminals in their order counts each net once.
 -- Assumes nothing.
 use Rattle.std.proofs.Common.{◌≡◌, ℕ, zero, suc, ◌+◌, ◌<◌, ◌≤◌, min, max, Bool, true, false, cond, ◌&&◌, ◌||◌, eqb, ltb, leb, List, [], ◌∷◌, ◌++◌, length, sym, refl, ap, ◌∙◌, ap₂, zero-add, arith, ltb-false, ltb-true, le-ltb, lt-ltb, eq-eqb, ne_eqb, eqb-true, le-leb, leb-false, leb-true}
-use mathlib.Core.Path.{fun_ext}
-use mathlib.Core.Bool.{and-false, or_assoc, or-true, or-false}
-use borrow.Author.Tests.{lt-leb, eqb-false}
+use Rattle.std.proofs.Math.Bool.{and-false, or_assoc, or-true, or-false}
+use Rattle.std.proofs.Math.Path.{fun_ext}
+use Rattle.std.proofs.lemmas.Bool.{lt-leb, eqb-false}
 use Rattle.kind.specs.declared.Kind.{Kind}
 use Rattle.kind.specs.Kinds.{kind_of, leaves_left, leaves_right, left_start, right_start}
 use Rattle.kind.proofs.Starts.{left_start_lem, left-start-before, left-start-apart, right_start_lem, right-start-from, right-start-apart}

@@ -1,14 +1,14 @@
 -- Laws of the steps: what a step finds on the top side, on the bottom side and past both.
 -- Assumes nothing.
 use Rattle.std.proofs.Common.{◌≡◌, ℕ, zero, suc, ◌+◌, ◌-◌, ◌<◌, ◌≤◌, List, [], ◌∷◌, ◌++◌, length, Some, None, Option, sym, refl, ap, ◌∙◌, append-nil, add-zero, add-one, arith}
-use native.Mathlib.Nat.{sub-zero}
+use Rattle.std.proofs.Math.Nat.{sub-zero}
+use Rattle.std.proofs.lemmas.Option.{none-some}
 use Rattle.channel.specs.Sheet.{Terminal, Sheet}
 use Rattle.channel.specs.declared.Side.{Side}
 use Rattle.channel.specs.declared.Side.TheVariants.{Top, Bottom}
 use Rattle.soundness.specs.Read.{Read}
 use Rattle.soundness.specs.Read.Read.{sound, refused}
 use Rattle.cursor.specs.declared.Cursor.{Cursor}
-use Rattle.std.proofs.lemmas.Option.{none-some}
 use Rattle.cursor.specs.declared.Visit.{Visit}
 use Rattle.sheet.specs.Parts.{shape_as, nth, entry_of, entry_as}
 use Rattle.cursor.specs.Visits.{visits, all_visits, visit_of, step_in, step_as}

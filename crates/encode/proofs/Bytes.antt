@@ -1,7 +1,7 @@
 -- Numbers, records and trailers behind other bytes, and each read back from the bytes it was written to.
 -- Assumes nothing.
 use Rattle.std.proofs.Common.{◌≡◌, ℕ, zero, suc, ◌+◌, ◌*◌, ◌/◌, ◌%◌, ◌^◌, ◌<◌, List, [], ◌∷◌, ◌++◌, length, sym, refl, ap, ◌∙◌, ap₂, append-nil, add_assoc, div-lt_iff_lt-mul, pow-suc, arith, get_or-append-add}
-use native.Mathlib.Nat.{mod-add-div, mul-div_right}
+use Rattle.std.proofs.Math.Nat.{mod-add-div, mul-div_right}
 use Rattle.channel.specs.Sheet.{Terminal}
 use Rattle.little.specs.Little.{little}
 use Rattle.trailer.specs.declared.Trailer.{Trailer}

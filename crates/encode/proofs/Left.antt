@@ -1,7 +1,7 @@
 -- What a loop that writes has left to write.
 -- Assumes nothing.
 use Rattle.std.proofs.Common.{◌≡◌, ℕ, ◌+◌, List, [], ◌++◌, length, sym, refl, ◌∙◌, add-zero, arith, length-append}
-use lib.Seq.{sets}
+use Rattle.std.proofs.Math.Seq.{sets}
 use Rattle.text.specs.Writing.{Wrote}
 use Rattle.text.proofs.Writes.{after, kept}
 

@@ -1,9 +1,8 @@
 -- What 1 to 5 leave: the numbers of the trailer are within their limits, and both sections lie in the file.
 -- Assumes nothing.
 use Rattle.std.proofs.Common.{◌≡◌, ℕ, ◌+◌, ◌*◌, ◌<◌, ◌≤◌, Bool, true, false, not, ◌||◌, eqb, ltb, List, length, Ok, refl, arith, ltb-false, eqb-true}
-use Rattle.std.proofs.lemmas.Bool.{or_parts}
-use mathlib.Core.Bool.{and-eq-true_iff}
-use borrow.Author.Tests.{eqb-false, not-false}
+use Rattle.std.proofs.Math.Bool.{and-eq-true_iff}
+use Rattle.std.proofs.lemmas.Bool.{or_parts, eqb-false, not-false}
 use Rattle.refusals.specs.declared.Refusal.TheVariants.{Short, Mark, Length, Count, Layout}
 use Rattle.refusals.specs.Refusals.{refuse}
 use Rattle.refusals.proofs.Refused.{or_else_sound, refuse-sound}

@@ -1,8 +1,8 @@
 -- Laws of the terminals in a section and of the parts of a sheet's bytes: which terminals there are, and how many.
 -- Assumes nothing.
 use Rattle.std.proofs.Common.{◌≡◌, ℕ, zero, suc, ◌+◌, ◌-◌, ◌*◌, ◌/◌, ◌<◌, ◌≤◌, min, Bool, true, false, ltb, List, [], ◌∷◌, length, get_or, take, drop, sym, refl, ap, ◌∙◌, zero-add, arith, length-drop, drop_of_length-le, length-take-le, take_all, ltb-false, ltb-true}
-use native.Mathlib.Nat.{mul-div_right}
-use lib.ListN.{get_or-eq_default}
+use Rattle.std.proofs.Math.ListN.{get_or-eq_default}
+use Rattle.std.proofs.Math.Nat.{mul-div_right}
 use Rattle.channel.specs.Sheet.{no_terminal}
 use Rattle.trailer.specs.declared.Part.{Part}
 use Rattle.format.specs.Format.{record_size, terminal_at, terminals_from}

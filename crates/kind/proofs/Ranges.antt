@@ -1,7 +1,7 @@
 -- The numbers of each kind of net, as document 02 (T-03) has them.
 -- Assumes nothing.
 use Rattle.std.proofs.Common.{◌≡◌, ℕ, ◌≤◌, refl, arith, le-leb}
-use borrow.Author.Tests.{lt-leb}
+use Rattle.std.proofs.lemmas.Bool.{lt-leb}
 use Rattle.kind.specs.declared.Kind.TheVariants.{Plain, Left, Right, BothEnds}
 use Rattle.kind.specs.Kinds.{kind_of}
 

@@ -1,7 +1,7 @@
 -- Laws of what holds of each in a list, of each two, and of some.
 -- Assumes nothing.
 use Rattle.std.proofs.Common.{◌≡◌, Bool, true, false, ◌||◌, List, [], ◌∷◌, ◌++◌, map, refl, true≢false}
-use mathlib.Core.Bool.{or-true}
+use Rattle.std.proofs.Math.Bool.{or-true}
 use Rattle.channel.specs.Density.{any}
 use Rattle.left_edge.specs.Lists.{Each, Pairwise}
 

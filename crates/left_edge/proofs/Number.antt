@@ -2,9 +2,8 @@
 -- track below a net's own, another crosses its left end. For the same reason no track up to the greatest is left out.
 -- Assumes nothing.
 use Rattle.std.proofs.Common.{◌≡◌, ℕ, zero, suc, ◌+◌, ◌<◌, ◌≤◌, max, Bool, true, false, cond, ◌&&◌, ◌||◌, eqb, ltb, leb, List, [], ◌∷◌, map, sym, refl, ap, ◌∙◌, true≢false, arith, ltb-false, ltb-true, eqb-true, le-leb, leb-false, leb-true}
-use Rattle.std.proofs.lemmas.Bool.{and_parts}
-use mathlib.Core.Bool.{or-true}
-use borrow.Author.Tests.{lt-leb, eqb-false}
+use Rattle.std.proofs.Math.Bool.{or-true}
+use Rattle.std.proofs.lemmas.Bool.{and_parts, lt-leb, eqb-false}
 use Rattle.channel.specs.Density.{any, weight_of, maximum_to}
 use Rattle.left_edge.specs.declared.Span.{Span}
 use Rattle.left_edge.specs.Lists.{Each, Pairwise, EachAfter}

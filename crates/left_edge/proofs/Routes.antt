@@ -2,8 +2,8 @@
 -- density.
 -- Assumes nothing.
 use Rattle.std.proofs.Common.{◌≡◌, ℕ, ◌<◌, ◌≤◌, Bool, true, eqb, List, [], ◌∷◌, ◌++◌, map, length, sym, refl, ap, ◌∙◌, subst, arith, take-append-drop}
-use mathlib.Core.Path.{fun_ext}
-use lib.ListN.{length-map}
+use Rattle.std.proofs.Math.ListN.{length-map}
+use Rattle.std.proofs.Math.Path.{fun_ext}
 use Rattle.channel.specs.Sheet.{Sheet, Sound}
 use Rattle.channel.specs.Assignment.{is_assignment, top_columns, bottom_columns}
 use Rattle.channel.specs.Density.{any, Pin, pins, crosses, distinct, nets_of, column_density, maximum_to, density}

@@ -1,7 +1,7 @@
 -- Laws of the lines: one terminal more of a side, and one list behind the other.
 -- Assumes nothing.
 use Rattle.std.proofs.Common.{◌≡◌, ℕ, zero, suc, ◌+◌, ◌<◌, ◌≤◌, List, [], ◌∷◌, ◌++◌, length, get_or, take, Option, sym, refl, ap, ◌∙◌, append_assoc, append-nil, add-zero, add-one, arith}
-use lib.Seq.{take-nil}
+use Rattle.std.proofs.Math.Seq.{take-nil}
 use Rattle.channel.specs.Sheet.{Terminal}
 use Rattle.terminal.specs.Terminal.{record_of}
 use Rattle.channel.specs.declared.Side.{Side}

@@ -1,8 +1,8 @@
 -- What the check of a column list answered: on a sound sheet 0 exactly when the list is an assignment.
 -- Assumes nothing.
 use Rattle.std.proofs.Common.{◌≡◌, ℕ, ◌+◌, Bool, true, false, ◌&&◌, eqb, List, [], ◌∷◌, length, take, drop, ℤ, pos, Ok, Err, Result, sym, refl, ap, ◌∙◌, arith, length-append, length-drop, take-append-drop, length-take-le, eq-eqb, ne_eqb, eqb-true}
-use mathlib.Core.Bool.{and_assoc, and-eq-true_iff}
-use borrow.Author.Tests.{eqb-false}
+use Rattle.std.proofs.Math.Bool.{and_assoc, and-eq-true_iff}
+use Rattle.std.proofs.lemmas.Bool.{eqb-false}
 use Rattle.channel.specs.Sheet.{Terminal, Sheet}
 use Rattle.channel.specs.Assignment.{allows, in_range, later_fit, side_fits, fits, top_columns, bottom_columns, is_assignment}
 use Rattle.channel.specs.Distance.{amount}

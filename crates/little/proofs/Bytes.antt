@@ -1,8 +1,8 @@
 -- Laws of a number in bytes.
 -- Assumes nothing.
 use Rattle.std.proofs.Common.{◌≡◌, ℕ, suc, ◌+◌, ◌-◌, ◌*◌, ◌^◌, ◌<◌, ◌≤◌, List, get_or, refl, ap, ◌∙◌, lt_of_lt_of_le, mul_comm, add_comm, arith, pow_mono, pow-add}
-use native.Mathlib.Nat.{sub_self}
-use lib.Arith.{digits_lt}
+use Rattle.std.proofs.Math.Arith.{digits_lt}
+use Rattle.std.proofs.Math.Nat.{sub_self}
 use Rattle.little.specs.Little.{little}
 
 -- one byte more at the front

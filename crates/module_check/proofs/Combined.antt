@@ -1,7 +1,7 @@
 -- Laws of the tests of modules: two that agree field by field, the tests of one module more, and of none.
 -- Assumes nothing.
 use Rattle.std.proofs.Common.{◌≡◌, ℕ, Bool, List, [], ◌∷◌, add-zero, add_assoc}
-use mathlib.Core.Bool.{and_assoc, and-true}
+use Rattle.std.proofs.Math.Bool.{and_assoc, and-true}
 use Rattle.modules.specs.Modules.{Module}
 use Rattle.module_check.specs.declared.Tests.{Tests}
 use Rattle.module_check.specs.Tests.{module_tests, all_tests, combined}

@@ -1,7 +1,7 @@
 -- What 16 and 17 leave of a module, pin by pin: the record of each can be written, and so many bytes hold them.
 -- Assumes nothing.
 use Rattle.std.proofs.Common.{◌≡◌, ℕ, ◌-◌, ◌*◌, ◌^◌, ◌<◌, ◌≤◌, ◌&&◌, ltb, leb, List, ◌∷◌, length, ap, ◌∙◌, lt_of_le_of_lt, mul-le-mul_left, arith, pow_mono, ltb-true}
-use mathlib.Core.Bool.{and-eq-true_iff}
+use Rattle.std.proofs.Math.Bool.{and-eq-true_iff}
 use Rattle.format.specs.Format.{record_size}
 use Rattle.encode.specs.Encode.{section_bytes}
 use Rattle.encode.proofs.Lengths.{length-section}

@@ -1,8 +1,8 @@
 -- What holds of two sides of modules that no answer refuses, and that their sheet can be written.
 -- Assumes nothing.
 use Rattle.std.proofs.Common.{◌≡◌, ℕ, ◌≤◌, Bool, true, false, ◌&&◌, leb, List, [], ◌∷◌, length, Ok, Err, Result, refl, lt_of_lt_of_le, arith, pow_mono, leb-true}
-use mathlib.Core.Bool.{and-eq-true_iff}
-use borrow.Author.Tests.{not-true}
+use Rattle.std.proofs.Math.Bool.{and-eq-true_iff}
+use Rattle.std.proofs.lemmas.Bool.{not-true}
 use Rattle.refusals.specs.declared.Refusal.TheVariants.{Length, Count, Net}
 use Rattle.encode.specs.Encode.{sheet_size}
 use Rattle.modules.specs.Modules.{Module, pin_count, every, is_valid, are_valid, is_within, is_named}

@@ -1,7 +1,7 @@
 -- A refusal leaves the sheet buffer, and a sheet that was written is read back.
 -- Assumes nothing.
 use Rattle.std.proofs.Common.{◌≡◌, ℕ, ◌<◌, ◌≤◌, List, ◌++◌, length, get_or, take, drop, Ok, Err, Result, sym, refl, ap, ◌∙◌, ap₂, zero-add, arith, take_at, le-leb}
-use lib.Seq.{sets-eq}
+use Rattle.std.proofs.Math.Seq.{sets-eq}
 use Rattle.channel.specs.Sheet.{Sheet}
 use Rattle.text.specs.Writing.{Wrote}
 use Rattle.trailer.specs.Trailer.{CP}

@@ -1,8 +1,8 @@
 -- What a call on two sides of modules that keeps its promise returned and left.
 -- Assumes nothing.
 use Rattle.std.proofs.Common.{◌≡◌, ℕ, ◌<◌, ◌≤◌, Bool, true, false, ◌&&◌, leb, List, length, drop, Ok, Err, Result, refl, ap, ◌∙◌, take_at, drop_at, le-leb, leb-true}
-use mathlib.Core.Bool.{and-eq-true_iff}
-use borrow.Author.Tests.{lt-leb}
+use Rattle.std.proofs.Math.Bool.{and-eq-true_iff}
+use Rattle.std.proofs.lemmas.Bool.{lt-leb}
 use Rattle.refusals.specs.declared.Refusal.TheVariants.{Length, Count, Net}
 use Rattle.trailer.specs.Trailer.{CP}
 use Rattle.encode.specs.Encode.{sheet_bytes, sheet_size}

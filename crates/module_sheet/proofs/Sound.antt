@@ -1,8 +1,8 @@
 -- The sheet of two sides of modules that no answer refuses is sound, and its numbers fit their bytes.
 -- Assumes nothing.
 use Rattle.std.proofs.Common.{◌≡◌, ℕ, ◌+◌, ◌-◌, ◌*◌, ◌^◌, ◌<◌, ◌≤◌, Bool, true, false, not, eqb, List, [], ◌∷◌, ◌++◌, length, refl, lt_of_lt_of_le, arith, pow_mono, le-leb}
-use mathlib.Core.Bool.{and-eq-true_iff}
-use borrow.Author.Tests.{lt-leb, not-true}
+use Rattle.std.proofs.Math.Bool.{and-eq-true_iff}
+use Rattle.std.proofs.lemmas.Bool.{lt-leb, not-true}
 use Rattle.channel.specs.Sheet.{Terminal, SoundTerminal, SoundFrom, distances_hold, names_above, Sound}
 use Rattle.channel.proofs.Sides.{Each}
 use Rattle.encode.specs.Encode.{EncodableTerminal, EncodableSide, Encodable}

@@ -1,7 +1,7 @@
 -- Laws of a side's list: the modules from a place on are the one there and those from its end on, and the list's end ends them.
 -- Assumes nothing.
 use Rattle.std.proofs.Common.{◌≡◌, ℕ, zero, suc, ◌+◌, ◌-◌, ◌*◌, ◌<◌, ◌≤◌, Bool, true, false, cond, leb, List, [], ◌∷◌, length, refl, ap, arith, le-leb, leb-false, leb-true}
-use borrow.Author.Tests.{lt-leb}
+use Rattle.std.proofs.lemmas.Bool.{lt-leb}
 use Rattle.modules.specs.declared.Head.{Head}
 use Rattle.modules.specs.Modules.{Module, pin_count}
 use Rattle.modules.specs.Bytes.{pin_size, pin_at, end_at, head_at, cut_head, head_in, pins_from, module_of, modules_from, modules_at, modules_in}

@@ -2,9 +2,9 @@
 -- names no column outside the channel.
 -- Assumes nothing.
 use Rattle.std.proofs.Common.{◌≡◌, ℕ, zero, suc, ◌+◌, ◌-◌, ◌*◌, ◌/◌, ◌%◌, ◌^◌, ◌<◌, ◌≤◌, Bool, true, false, not, eqb, leb, ◌↔◌, sym, refl, ap, ◌∙◌, true≢false, lt_of_lt_of_le, mul_assoc, zero-mul, arith, pow_pos, pow_mono, pow-add, shl_lt, leb-false, leb-true}
-use native.Mathlib.Nat.{mul-div-mul_right, mul-mod_left}
-use lib.Pow.{shl-shr}
-use borrow.Author.Tests.{not-true}
+use Rattle.std.proofs.Math.Nat.{mul-div-mul_right, mul-mod_left}
+use Rattle.std.proofs.Math.Pow.{shl-shr}
+use Rattle.std.proofs.lemmas.Bool.{not-true}
 use Rattle.channel.specs.Sheet.{names_above}
 use Rattle.channel.specs.Assignment.{allows}
 use Rattle.channel.proofs.Sets.{allowed-column, names_above_exactly}

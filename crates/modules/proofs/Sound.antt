@@ -1,8 +1,8 @@
 -- What the tests of modules say: offsets that rise, a valid module, a sound side of modules.
 -- Assumes nothing.
 use Rattle.std.proofs.Common.{◌≡◌, ℕ, ◌+◌, ◌-◌, ◌<◌, ◌≤◌, true, false, ltb, leb, List, [], ◌∷◌, length, arith, ltb-true, leb-true}
-use mathlib.Core.Bool.{and-eq-true_iff}
-use borrow.Author.Tests.{not-true}
+use Rattle.std.proofs.Math.Bool.{and-eq-true_iff}
+use Rattle.std.proofs.lemmas.Bool.{not-true}
 use Rattle.channel.specs.Sheet.{names_above}
 use Rattle.modules.specs.declared.Pin.{Pin}
 use Rattle.modules.specs.Modules.{Module, first_offset, last_offset, every, is_rising, is_valid, is_within}

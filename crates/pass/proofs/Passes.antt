@@ -1,7 +1,7 @@
 -- Laws of the passes: what a pass says, and why the bisection finds the least bound.
 -- Assumes nothing.
 use Rattle.std.proofs.Common.{ℕ, suc, ◌+◌, ◌-◌, ◌≤◌, ◌<◌, ◌≡◌, refl, sym, ◌∙◌, ap₂, List, Bool, true, false, cond, ◌&&◌, true≢false, inl, arith, le_refl, leb, ltb, ltb-true, ltb-false}
-use lib.Dec.{leb-zero}
+use Rattle.std.proofs.Math.Dec.{leb-zero}
 use Rattle.channel.proofs.Below.{any_below_cong, any_below-none}
 use Rattle.channel.specs.Density.{most_density}
 use Rattle.bits.specs.Bits.{bit_of, in_word}

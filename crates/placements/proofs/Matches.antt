@@ -1,7 +1,7 @@
 -- The assignments of the sheet of two sides of modules are, one to one, the placements without overlap.
 -- Assumes nothing.
 use Rattle.std.proofs.Common.{◌≡◌, ℕ, ◌≤◌, true, ◌&&◌, List, ◌++◌, length, take, drop, sym, ap, ◌∙◌, ap₂, take-append-drop, take_at, drop_at}
-use mathlib.Core.Bool.{and-eq-true_iff}
+use Rattle.std.proofs.Math.Bool.{and-eq-true_iff}
 use Rattle.channel.specs.Assignment.{side_fits, fits, top_columns, bottom_columns, is_assignment}
 use Rattle.channel.proofs.Assignments.{side-length}
 use Rattle.modules.specs.Modules.{Module, side_terminals, module_sheet, pin_count}

@@ -1,7 +1,7 @@
 -- The columns that fit a side of modules are, one to one, the placements of the modules without overlap.
 -- Assumes nothing.
 use Rattle.std.proofs.Common.{◌≡◌, ℕ, suc, ◌+◌, ◌-◌, ◌*◌, ◌^◌, ◌<◌, ◌≤◌, Bool, true, false, ◌&&◌, leb, List, [], ◌∷◌, ◌++◌, length, drop, sym, refl, ap, ◌∙◌, ap₂, true≢false, arith, drop_at, le-leb, leb-true}
-use mathlib.Core.Bool.{and-eq-true_iff}
+use Rattle.std.proofs.Math.Bool.{and-eq-true_iff}
 use Rattle.channel.specs.Sheet.{Terminal}
 use Rattle.channel.specs.Assignment.{allows, later_fit, side_fits}
 use Rattle.channel.proofs.Sets.{allowed-column}

@@ -1,8 +1,8 @@
 -- Words that place the pins still to be placed: what they say of their first letter and of the rest, and that `reach` knows of them.
 -- Assumes nothing.
 use Rattle.std.proofs.Common.{◌≡◌, ℕ, suc, pred, ◌<◌, ◌≤◌, max, Bool, true, false, cond, not, ◌||◌, eqb, List, [], ◌∷◌, length, refl, ap, ◌∙◌, arith, ne_eqb}
-use Rattle.std.proofs.lemmas.Bool.{and_from}
-use mathlib.Core.Bool.{false≢true, or-true, and-eq-true_iff}
+use Rattle.std.proofs.Math.Bool.{or-true, and-eq-true_iff}
+use Rattle.std.proofs.lemmas.Bool.{and_from, false≢true}
 use Rattle.channel.specs.Sheet.{Terminal, Sheet}
 use Rattle.channel.specs.Assignment.{allows}
 use Rattle.channel.specs.Word.{Letter, has_top, has_bottom}

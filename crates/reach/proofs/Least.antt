@@ -1,8 +1,9 @@
 -- The least bound under which all pins can be placed, with the word that the walk writes under it, is the best assignment of a sheet.
 -- Assumes nothing.
 use Rattle.std.proofs.Common.{◌≡◌, ℕ, ◌+◌, ◌<◌, ◌≤◌, max, Bool, true, false, cond, ◌&&◌, ◌||◌, eqb, ltb, leb, List, [], ◌∷◌, ◌++◌, map, length, sym, refl, ap, ◌∙◌, ap₂, true≢false, le_refl, arith, length-append, ltb-true, eqb-true, leb-false, leb-true}
-use mathlib.Core.Bool.{false≢true, and-eq-true_iff}
-use lib.ListN.{length-map}
+use Rattle.std.proofs.Math.Bool.{and-eq-true_iff}
+use Rattle.std.proofs.Math.ListN.{length-map}
+use Rattle.std.proofs.lemmas.Bool.{false≢true}
 use Rattle.channel.specs.Sheet.{Terminal, Sheet, Sound}
 use Rattle.channel.specs.Assignment.{is_assignment}
 use Rattle.channel.specs.Density.{weight_of, nets_of, density, most_density}

@@ -1,7 +1,7 @@
 -- The laws of `reach`: an equation for each way in which the column furthest right can be occupied.
 -- Assumes nothing.
 use Rattle.std.proofs.Common.{◌≡◌, ℕ, zero, suc, ◌<◌, false, ◌&&◌, eqb, refl, arith, le-ltb, lt-ltb, ne_eqb}
-use mathlib.Core.Bool.{and-false}
+use Rattle.std.proofs.Math.Bool.{and-false}
 use Rattle.channel.specs.Sheet.{Sheet}
 use Rattle.reach.specs.Reach.{by_top, by_bottom, by_both, bottoms_only, with_tops, reach}
 

@@ -1,8 +1,8 @@
 -- One column more: how the places of the last pins change where one more letter stands to the right, and the induction that gives.
 -- Assumes nothing.
 use Rattle.std.proofs.Common.{◌≡◌, ℕ, zero, suc, ◌<◌, ◌≤◌, Bool, true, false, cond, ◌&&◌, leb, List, sym, refl, ◌∙◌, arith, ne_eqb, le-leb, leb-false, leb-true}
-use Rattle.std.proofs.lemmas.Bool.{and_from}
-use mathlib.Core.Bool.{and-false, false≢true, and-eq-true_iff}
+use Rattle.std.proofs.Math.Bool.{and-false, and-eq-true_iff}
+use Rattle.std.proofs.lemmas.Bool.{and_from, false≢true}
 use Rattle.channel.specs.Below.{any_below}
 use Rattle.channel.proofs.Below.{any_below-from, any_below_to}
 use Rattle.channel.specs.Sheet.{Terminal, Sheet}

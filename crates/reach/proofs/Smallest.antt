@@ -1,8 +1,8 @@
 -- The word that the walk writes places all pins within the bound, and no word that does so comes before it.
 -- Assumes nothing.
 use Rattle.std.proofs.Common.{◌≡◌, ℕ, zero, suc, pred, ◌≤◌, Bool, true, false, ◌&&◌, ◌||◌, eqb, ltb, List, [], ◌∷◌, length, sym, refl, ap, ◌∙◌, arith, ltb-false, eq-eqb}
-use Rattle.std.proofs.lemmas.Bool.{and_from}
-use mathlib.Core.Bool.{false≢true, and-eq-true_iff}
+use Rattle.std.proofs.Math.Bool.{and-eq-true_iff}
+use Rattle.std.proofs.lemmas.Bool.{and_from, false≢true}
 use Rattle.channel.proofs.Below.{any_below-from, any_below_to}
 use Rattle.channel.specs.Sheet.{Terminal, Sheet}
 use Rattle.channel.specs.Word.{Letter, rank, has_top, has_bottom, no_later}

@@ -1,9 +1,9 @@
 -- A side's columns fit exactly when, letter by letter from the left, each pin may stand where it does.
 -- Assumes nothing.
 use Rattle.std.proofs.Common.{◌≡◌, ℕ, suc, ◌≤◌, Bool, true, false, cond, not, ◌&&◌, ◌||◌, leb, List, [], ◌∷◌, ◌++◌, length, get_or, take, refl, append-nil, arith, length-take, take-suc}
-use mathlib.Core.Bool.{and-true, and_assoc}
-use lib.Seq.{take-length}
-use borrow.Author.Tests.{lt-leb}
+use Rattle.std.proofs.Math.Bool.{and-true, and_assoc}
+use Rattle.std.proofs.Math.Seq.{take-length}
+use Rattle.std.proofs.lemmas.Bool.{lt-leb}
 use Rattle.channel.specs.Sheet.{Terminal, no_terminal}
 use Rattle.channel.specs.Assignment.{allows, in_range, later_fit, side_fits}
 use Rattle.channel.specs.Word.{Letter, columns_with}

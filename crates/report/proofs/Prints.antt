@@ -1,7 +1,7 @@
 -- Why the text is the one to print: a search that found an assignment found the best one, and the columns are its columns.
 -- Assumes nothing.
 use Rattle.std.proofs.Common.{◌≡◌, ℕ, ◌+◌, ◌<◌, ◌≤◌, List, ◌++◌, length, take, drop, Ok, Err, Result, sym, ap, ◌∙◌, zero-add, arith, le-ltb, lt-ltb}
-use lib.Seq.{sets-eq}
+use Rattle.std.proofs.Math.Seq.{sets-eq}
 use Rattle.soundness.specs.Read.{sheet_of}
 use Rattle.sheet.specs.Parts.{shape_of}
 use Rattle.sheet.proofs.Laws.{shape-read}

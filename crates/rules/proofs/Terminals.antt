@@ -1,9 +1,9 @@
 -- Why the two words that are made for a terminal are its rule.
 -- Assumes nothing.
 use Rattle.std.proofs.Common.{ℕ, zero, suc, ◌+◌, ◌-◌, ◌/◌, ◌%◌, ◌^◌, ◌≤◌, ◌<◌, ◌≡◌, refl, sym, ◌∙◌, ap, List, Bool, true, false, ◌&&◌, ◌||◌, arith, zero-add, suc-add, add-one, get_or, leb, ltb, eqb, le-leb, ltb-true, ltb-false, lt-ltb, le-ltb, eqb-true}
-use mathlib.Core.Bool.{and-true, and-false, or-false}
-use lib.Dec.{leb-suc-suc}
-use borrow.Author.Tests.{lt-leb, eqb-false}
+use Rattle.std.proofs.Math.Bool.{and-true, and-false, or-false}
+use Rattle.std.proofs.Math.Dec.{leb-suc-suc}
+use Rattle.std.proofs.lemmas.Bool.{lt-leb, eqb-false}
 use Rattle.channel.specs.Sheet.{no_terminal}
 use Rattle.channel.specs.Assignment.{allows, in_range}
 use Rattle.channel.proofs.Sets.{allows_at}

@@ -1,7 +1,7 @@
 -- Laws of the parts of a sheet: its shape and its sections, and that a record of a section is that record of the sheet.
 -- Assumes nothing.
 use Rattle.std.proofs.Common.{◌≡◌, ℕ, zero, suc, ◌+◌, ◌-◌, ◌*◌, ◌<◌, ◌≤◌, List, [], ◌∷◌, length, get_or, Some, None, Ok, Err, Result, sym, refl, ap, ◌∙◌, arith}
-use native.Mathlib.Nat.{min-eq_left}
+use Rattle.std.proofs.Math.Nat.{min-eq_left}
 use Rattle.channel.specs.Sheet.{Terminal, no_terminal, Sheet, terminals}
 use Rattle.refusals.specs.declared.Refusal.{Refusal}
 use Rattle.terminal.specs.Terminal.{record_of}

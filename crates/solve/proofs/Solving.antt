@@ -1,8 +1,8 @@
 -- Why the inner search comes to the best assignment of the two sections' sheet.
 -- Assumes nothing.
 use Rattle.std.proofs.Common.{ℕ, zero, suc, ◌+◌, ◌-◌, ◌*◌, ◌≤◌, ◌<◌, ◌≡◌, refl, sym, ◌∙◌, ap, subst, List, ◌++◌, Bool, true, false, cond, ◌⊎◌, inl, inr, ⊎_elim, arith, mul_assoc, mul-le-mul_right, length, drop, eqb, Option, Some, None}
-use lib.ListN.{length-map}
-use borrow.Author.Tests.{eqb-false}
+use Rattle.std.proofs.Math.ListN.{length-map}
+use Rattle.std.proofs.lemmas.Bool.{eqb-false}
 use Rattle.channel.specs.Sheet.{Sheet, Sound}
 use Rattle.channel.specs.Density.{most_density}
 use Rattle.channel.specs.Best.{best}

@@ -1,7 +1,7 @@
 -- What is read as a sheet is a sound sheet.
 -- Assumes nothing.
 use Rattle.std.proofs.Common.{◌≡◌, ℕ, Bool, true, false, not, eqb, List, [], ◌∷◌, Ok, Err, Result, refl, ap, arith}
-use borrow.Author.Tests.{not-false}
+use Rattle.std.proofs.lemmas.Bool.{not-false}
 use Rattle.channel.specs.Sheet as channel
 use Rattle.channel.specs.Sheet.{Terminal, Sheet, SoundTerminal, SoundFrom, distances_hold}
 use Rattle.refusals.specs.declared.Refusal.{Refusal}

@@ -1,13 +1,14 @@
 -- Laws of the steps from a set: one after the other, by all numbers from some number on, and by a run.
 -- Assumes nothing.
 use Rattle.std.proofs.Common.{ℕ, zero, suc, ◌+◌, ◌-◌, ◌*◌, ◌/◌, ◌%◌, ◌^◌, ◌≤◌, ◌<◌, ◌≡◌, refl, sym, ◌∙◌, ap, ap₂, Bool, true, false, ◌&&◌, ◌||◌, ◌⊎◌, inl, inr, arith, leb, ltb, bit_or, leb-true, leb-false, le-leb, lt-ltb, ltb-true, ltb-false, eq-eqb, ne_eqb}
+use Rattle.std.proofs.Math.Bool.{and-false, or-true, or_assoc, and-eq-true_iff}
 use Rattle.std.proofs.lemmas.Bool.{or_cases}
-use mathlib.Core.Bool.{and-false, or-true, or_assoc, and-eq-true_iff}
+use Rattle.std.specs.Cmp.{both_ways}
 use Rattle.channel.specs.Below.{any_below}
 use Rattle.channel.proofs.Below.{any_below-from, any_below_to, any_below-none}
 use Rattle.bits.specs.Bits.{bit_of}
 use Rattle.steps.specs.Stepped.{stepped, covered}
-use Rattle.bits.proofs.Laws.{bit_of-bit_or, bit_zero, bit-first, bit_shr, bit_shl, same_test}
+use Rattle.bits.proofs.Laws.{bit_of-bit_or, bit_zero, bit-first, bit_shr, bit_shl}
 
 -- a test moved up by one, which fails at 0
 some_moved : (n : ℕ) (f g : ℕ → Bool) → g 0 ≡ false → ((k : ℕ) → k < n → g (suc k) ≡ f k) → any_below (suc n) g ≡ any_below n f
@@ -38,11 +39,7 @@ stepped-more w by n h =
 
 pub stepped-none : (w n : ℕ) → stepped w 0 n ≡ false
 unfolding stepped
-stepped-none w n = none (suc n)
-  where
-    none : (m : ℕ) → any_below m (λ (y : ℕ). bit_of 0 (n - y) && bit_of w y) ≡ false
-    none zero = refl
-    none (suc m) = rw (bit_zero (n - m)) (none m)
+stepped-none w n = any_below-none (suc n) (λ (y : ℕ). bit_of 0 (n - y) && bit_of w y) (λ y l. rw (bit_zero (n - y)))
 
 -- by a step of any number from a on, all numbers from the lowest plus a on are reached
 pub stepped-open :
@@ -86,12 +83,12 @@ module _ (w : ℕ) where
 
   pub covered_one : (k : ℕ) → bit_of w k ≡ covered w 1 k
   covered_one k =
-      same_test (bit_of w k) (covered w 1 k) (λ e. covered-from 1 k k (omega arith) (omega arith) e)
+      both_ways (bit_of w k) (covered w 1 k) (λ e. covered-from 1 k k (omega arith) (omega arith) e)
       (λ e. let (y, h, l, g) = covered_to 1 k e in ap (bit_of w) (omega arith) ∙ g)
 
   -- moved up by no more than the width, it makes one longer
   pub covered_more : (a b k : ℕ) → b ≤ a → (covered w a k || (leb b k && covered w a (k - b))) ≡ covered w (a + b) k
-  covered_more a b k h = same_test _ _ there back
+  covered_more a b k h = both_ways _ _ there back
     where
       there : (covered w a k || (leb b k && covered w a (k - b))) ≡ true → covered w (a + b) k ≡ true
       there e = by_part (or_cases (covered w a k) (leb b k && covered w a (k - b)) e)
@@ -130,7 +127,7 @@ pub stepped-run :
     (w by a end n : ℕ) → n < 64 → ((m : ℕ) → m < 64 → bit_of by m ≡ (leb a m && ltb m end))
     → (leb a n && covered w (end - a) (n - a)) ≡ stepped w by n
 unfolding stepped
-stepped-run w by a end n h run = same_test _ _ there back
+stepped-run w by a end n h run = both_ways _ _ there back
   where
     step : ℕ → Bool
     step y = bit_of by (n - y) && bit_of w y

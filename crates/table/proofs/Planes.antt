@@ -1,8 +1,8 @@
 -- Why the planes, filled one after the other, hold the table.
 -- Assumes nothing.
 use Rattle.std.proofs.Common.{ℕ, zero, suc, ◌+◌, ◌-◌, ◌*◌, ◌%◌, ◌^◌, ◌≤◌, ◌<◌, ◌≡◌, refl, sym, ◌∙◌, ap, ap₂, List, Bool, true, false, ◌&&◌, ◌||◌, ◌⊎◌, inl, inr, arith, mul-le-mul_right, add-mul, one-mul, suc-mul, zero-mul, mod-eq_of_lt, length, drop, drop-drop, leb, ltb, eqb, ltb-true, ltb-false, eqb-true}
-use native.Mathlib.Nat.{mul-add-mod_self_right}
-use borrow.Author.Tests.{eqb-false}
+use Rattle.std.proofs.Math.Nat.{mul-add-mod_self_right}
+use Rattle.std.proofs.lemmas.Bool.{eqb-false}
 use Rattle.channel.proofs.Below.{any_below_cong}
 use Rattle.bits.specs.Bits.{bit_of}
 use Rattle.cells.specs.Cells.{word_at, put_word}

@@ -1,12 +1,12 @@
 -- Laws of the loop that asks rows.
 -- Assumes nothing.
 use Rattle.std.proofs.Common.{ℕ, suc, ◌+◌, ◌^◌, ◌≤◌, ◌<◌, ◌≡◌, sym, ◌∙◌, ap, Bool, true, false, ◌&&◌, arith, add-one, leb, le-leb}
-use mathlib.Core.Bool.{and-false}
+use Rattle.std.proofs.Math.Bool.{and-false}
+use Rattle.std.proofs.lemmas.Bool.{lt-leb}
 use Rattle.channel.specs.Below.{any_below}
 use Rattle.channel.proofs.Below.{any_below-from, any_below-none}
 use Rattle.bits.specs.Bits.{bit_of, in_word}
 use Rattle.bits.proofs.Laws.{bit_zero, some_bit, word_none, word-from}
-use borrow.Author.Tests.{lt-leb}
 
 -- the rows m from low on of which f holds and in which some number of g m stands: none before low
 pub none_before :

@@ -2,8 +2,8 @@
 -- definition's.
 -- Assumes nothing.
 use Rattle.std.proofs.Common.{◌≡◌, ℕ, zero, suc, ◌+◌, ◌-◌, ◌<◌, ◌≤◌, Bool, true, false, cond, ltb, ℤ, pos, negsuc, ◌-ℤ◌, sym, ◌∙◌, subst, ap₂, arith, w16, SFits, to_z, of_z}
-use lib.Signed.{lt_z, mag}
-use mir.ValLaws.{to_z-of_z}
+use Rattle.std.proofs.lemmas.Int.{to_z-of_z}
+use Rattle.std.specs.Int.Signed.{lt_z, mag}
 use Rattle.channel.specs.Distance.{distance, amount}
 
 -- what is taken from a number moves its size by no more

@@ -1,7 +1,8 @@
 -- What a caller may use of the distance test: the bits of its answer are 0 exactly in range.
 -- Assumes nothing.
-use Rattle.std.proofs.Common.{◌≡◌, ℕ, ◌^◌, ◌<◌, Bool, true, false, ℤ, pos, sym, refl, ap, ◌∙◌, to_z-of_z, w16, to_z, of_z}
-use lib.Signed.{mag}
+use Rattle.std.proofs.Common.{◌≡◌, ℕ, ◌^◌, ◌<◌, true, false, ℤ, pos, sym, ap, ◌∙◌, to_z-of_z, w16, to_z, of_z}
+use Rattle.std.proofs.lemmas.Bool.{false_from_ne_true}
+use Rattle.std.specs.Int.Signed.{mag}
 use mir.Val.{hbits}
 use Rattle.channel.specs.Assignment.{in_range}
 use Rattle.channel.specs.Distance.{amount}
@@ -16,8 +17,4 @@ module _ (least greatest before column : ℕ) {r : ℤ} (fits : mag r < 2 ^ hbit
   zero_within e = (amount_says least greatest before column).zero.0 (sym answer ∙ zero_bits fits e)
 
   pub other_beyond : (of_z w16 r ≡ 0 → ⊥) → in_range least greatest before column ≡ false
-  other_beyond h = by-test (in_range least greatest before column) refl
-    where
-      by-test : (t : Bool) → in_range least greatest before column ≡ t → in_range least greatest before column ≡ false
-      by-test true e = absurd (h (ap (of_z w16) (answer ∙ (amount_says least greatest before column).zero.1 e)))
-      by-test false e = e
+  other_beyond h = false_from_ne_true _ (λ e. h (ap (of_z w16) (answer ∙ (amount_says least greatest before column).zero.1 e)))

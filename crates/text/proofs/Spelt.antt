@@ -1,7 +1,7 @@
 -- Digits spell their number: read one by one they give it back. So the definition of what is written is the usual one.
 -- Assumes nothing.
 use Rattle.std.proofs.Common.{◌≡◌, ℕ, zero, suc, ◌+◌, ◌-◌, ◌*◌, ◌/◌, ◌^◌, ◌<◌, Bool, true, false, ltb, List, [], ◌∷◌, ◌++◌, refl, pow-suc, arith}
-use native.Mathlib.Nat.{pow-zero}
+use Rattle.std.proofs.Math.Nat.{pow-zero}
 use Rattle.text.specs.Digits.{digits, numeral}
 
 -- the number that digits spell, after those that spell n

@@ -1,7 +1,7 @@
 -- Laws of texts written one after the other.
 -- Assumes nothing.
 use Rattle.std.proofs.Common.{◌≡◌, ℕ, suc, ◌+◌, ◌-◌, ◌/◌, ◌%◌, ◌≤◌, List, [], ◌∷◌, ◌++◌, length, set, sym, refl, ap, ◌∙◌, subst, add-zero, arith, length-append}
-use lib.Seq.{sets, length-sets}
+use Rattle.std.proofs.Math.Seq.{sets, length-sets}
 use Rattle.text.specs.Digits.{digits}
 use Rattle.text.specs.Writing.{Wrote, Writes}
 use Rattle.text.specs.declared.Writer.{Writer}

@@ -1,9 +1,9 @@
 -- Laws of the walk's choices: what each question to the table says.
 -- Assumes nothing.
 use Rattle.std.proofs.Common.{ℕ, zero, suc, ◌-◌, ◌≤◌, ◌<◌, min, ◌≡◌, refl, sym, ap, ◌∙◌, List, Bool, true, false, cond, ◌&&◌, arith, leb, ltb, eqb, le-leb, lt-ltb}
-use mathlib.Core.Bool.{or-false}
-use lib.Dec.{leb-zero}
-use borrow.Author.Tests.{lt-leb}
+use Rattle.std.proofs.Math.Bool.{or-false}
+use Rattle.std.proofs.Math.Dec.{leb-zero}
+use Rattle.std.proofs.lemmas.Bool.{lt-leb}
 use Rattle.channel.specs.Below.{any_below}
 use Rattle.channel.proofs.Below.{any_below_cong}
 use Rattle.bits.specs.Bits.{bit_of}

@@ -1,7 +1,7 @@
 -- `bits::from` meets its contract: a full word shifted down and up again.
 -- Assumes nothing.
 use Rattle.std.proofs.Common.{sym, ◌∙◌, arith}
-use borrow.Author.Tests.{lt-leb}
+use Rattle.std.proofs.lemmas.Bool.{lt-leb}
 use Rattle.bits.proofs.Laws.{bit_zero, bit-from}
 use Rattle.bits.proofs.from.Goals as goal
 

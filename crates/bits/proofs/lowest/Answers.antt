@@ -1,8 +1,8 @@
 -- `bits::lowest` meets its contract: as many zeros stand below the lowest bit.
 -- Assumes nothing.
-use lib.Count.{trailing_le}
-use Rattle.bits.proofs.Laws.{trailing_bit, trailing_none}
+use Rattle.std.proofs.lemmas.Nat.{trailing_le}
+use Rattle.bits.proofs.Laws.{lowest_bit}
 use Rattle.bits.proofs.lowest.Goals as goal
 
 pub returns : goal.returns
-returns c = (trailing_le 64 c.args.w, trailing_bit 64 c.args.w, trailing_none 64 c.args.w)
+returns c = let (has, none) = lowest_bit c.args.w c.ranges.w.fits in (trailing_le 64 c.args.w, has, none)

@@ -1,5 +1,5 @@
 use Rattle.std.proofs.Common.{◌≡◌, ◌+◌, ℕ, zero, suc, ◌-◌, ◌/◌, ◌%◌, ◌<◌, List, [], ◌∷◌, ◌∙◌, arith}
-use native.Mathlib.Numerals.{unary_clauses}
+use Rattle.std.proofs.Math.Numerals.{unary_clauses}
 use Rattle.text.specs.Writing.{Wrote}
 use Rattle.encode.specs.Encode.{bytes}
 use Rattle.encode.proofs.Left.{Left, less-left}

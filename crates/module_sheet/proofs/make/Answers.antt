@@ -1,7 +1,7 @@
 -- `module_sheet::make` meets its contract: a refusal leaves the buffer, and what is written is the sheet meant.
 -- Assumes nothing.
 use Rattle.std.proofs.Common.{length, sym, ap, arith, rules, le-leb}
-use borrow.Author.Tests.{lt-leb}
+use Rattle.std.proofs.lemmas.Bool.{lt-leb}
 use Rattle.modules.specs.Bytes.{modules_in}
 use Rattle.module_check.specs.declared.Tests.{Tests}
 use Rattle.made.specs.Numbers.{number_of}

@@ -1,6 +1,6 @@
 -- The text of each way out.
 use Rattle.std.proofs.Common.{ℕ, ◌≤◌, length, arith, refl, ap, ◌∙◌}
-use lib.ListN.{length-replicate}
+use Rattle.std.proofs.Math.ListN.{length-replicate}
 use Rattle.text.proofs.Writes.{same_written}
 use Rattle.report.specs.Printed.{refusal}
 use Rattle.report.proofs.Prints.{too_long, refused_text, found_pins, found_text}

@@ -1,7 +1,7 @@
 -- `steps::closed` meets its contract: where the steps are a run, it is taken as one.
 -- Assumes nothing.
 use Rattle.std.proofs.Common.{ℕ, ◌-◌, ◌∙◌, ap, ap₂, Bool, ◌&&◌, arith, leb}
-use lib.Count.{count_leading_zeros}
+use Rattle.std.specs.Int.Count.{count_leading_zeros}
 use Rattle.bits.specs.Bits.{bit_of}
 use Rattle.bits.proofs.Laws.{bit_shl}
 use Rattle.steps.proofs.Stepped.{stepped-run}

@@ -1,5 +1,5 @@
 use Rattle.std.proofs.Common.{ℕ, ◌∙◌, sym, ap, ◌||◌}
-use mathlib.Core.Bool.{or-false}
+use Rattle.std.proofs.Math.Bool.{or-false}
 use Rattle.bits.specs.Bits.{bit_of}
 use Rattle.steps.specs.Stepped.{stepped}
 use Rattle.bits.proofs.Laws.{bit_zero}

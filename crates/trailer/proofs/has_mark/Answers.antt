@@ -1,7 +1,7 @@
 -- `trailer::has_mark` meets its contract: the first test decides the length, the second the first letter, and the third is the other.
 -- Assumes nothing.
 use Rattle.std.proofs.Common.{eq-eqb, ne_eqb, le-leb}
-use borrow.Author.Tests.{lt-leb}
+use Rattle.std.proofs.lemmas.Bool.{lt-leb}
 use Rattle.trailer.specs.Trailer.{has_mark}
 use Rattle.trailer.proofs.has_mark.Goals as goal
 

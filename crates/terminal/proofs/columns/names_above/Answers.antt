@@ -1,7 +1,7 @@
 -- `terminal::names_above` meets its contract: a set of 64 bits names no column above 64, and below that the shifted set says it.
 -- Assumes nothing.
 use Rattle.std.proofs.Common.{sym, lt_of_lt_of_le, pow_mono}
-use borrow.Author.Tests.{lt-leb}
+use Rattle.std.proofs.lemmas.Bool.{lt-leb}
 use Rattle.channel.proofs.Sets.{names_above_quotient}
 use Rattle.terminal.proofs.columns.names_above.Goals as goal
 
