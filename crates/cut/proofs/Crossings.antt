@@ -1,8 +1,9 @@
 -- The loads that a loop over the nets' places counts are the loads of the cut.
 -- Assumes nothing.
 use Rattle.std.proofs.Common.{ℕ, ◌+◌, ◌≤◌, ◌<◌, ◌≡◌, refl, ap, ◌∙◌, List, [], ◌∷◌, ◌++◌, Bool, true, false, cond, ◌||◌, arith, add-one, length, get_or, drop, leb, ltb, eqb, drop-cons}
-use mathlib.Core.Path.{fun_ext}
-use mathlib.Core.Bool.{or-false, false≢true}
+use Rattle.std.proofs.Math.Bool.{or-false}
+use Rattle.std.proofs.Math.Path.{fun_ext}
+use Rattle.std.proofs.lemmas.Bool.{false≢true}
 use mir.Val.{bool_byte}
 use Rattle.channel.specs.Density.{weight_of, distinct, crossing}
 use Rattle.channel.specs.Word.{Letter, has_top, has_bottom}

@@ -1,8 +1,8 @@
 -- The ends of a net on one side, and the net of the last pin so far, say which stretches of the side it stands in at a column.
 -- Assumes nothing.
 use Rattle.std.proofs.Common.{ℕ, zero, suc, ◌≤◌, ◌≡◌, refl, ◌∙◌, List, Bool, true, false, ◌||◌, arith, length, drop-cons}
-use mathlib.Core.Bool.{or-false}
-use lib.Dec.{leb-suc-suc}
+use Rattle.std.proofs.Math.Bool.{or-false}
+use Rattle.std.proofs.Math.Dec.{leb-suc-suc}
 use Rattle.kind.specs.Kinds.{kind_of, leaves_left}
 use Rattle.channel.specs.Cut.{has, left_of, here_of}
 use Rattle.places.specs.Places.{ends_of}

@@ -1,12 +1,11 @@
 -- Laws of the counting: one addition for each net gives the crossings of every column.
 -- Assumes nothing.
 use Rattle.std.proofs.Common.{zero, ◌-◌, ◌++◌, one-add, length-take-le, get_or-take, add-sub_of_le, ◌≡◌, ℕ, suc, ◌+◌, ◌<◌, ◌≤◌, max, Bool, true, false, cond, ◌&&◌, eqb, ltb, leb, List, [], ◌∷◌, length, get_or, take, drop, fold, replicate, length-drop, get_or-drop, take-suc, sym, refl, ap, ◌∙◌, add-zero, zero-add, arith, ltb-false, ltb-true, le-ltb, lt-ltb, le-leb, leb-false, leb-true}
-use borrow.Rule.Slice.PartMut.{put_mid}
-use Rattle.std.proofs.lemmas.List.Sums.{fold-append}
+use Rattle.std.proofs.lemmas.Bool.{lt-leb}
 use Rattle.std.proofs.lemmas.List.{get_or_append_left, get_or-append_right}
-use borrow.Author.Tests.{lt-leb}
+use Rattle.std.proofs.lemmas.List.Sums.{fold-append, sum_by-cons}
 use Rattle.std.specs.List.{sum_by}
-use Rattle.std.proofs.lemmas.List.Sums.{sum_by-cons}
+use borrow.Rule.Slice.PartMut.{put_mid}
 use Rattle.channel.specs.Density.{any, distinct, Pin, maximum_to}
 use Rattle.channel.proofs.Spans.{spans-from}
 use Rattle.channel.specs.Spans.{sum_last, leftmost, rightmost}

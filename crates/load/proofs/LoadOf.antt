@@ -1,7 +1,7 @@
 -- A sheet's load is that of the nets of its two sides, and where it stands in the table.
 -- Assumes nothing.
 use Rattle.std.proofs.Common.{ℕ, ◌≤◌, ◌≡◌, ◌∙◌, List, arith, ne_eqb}
-use mathlib.Core.List.{map-append}
+use Rattle.std.proofs.lemmas.List.{map-append}
 use Rattle.channel.specs.Sheet.{Sheet}
 use Rattle.channel.specs.Density.{nets_of}
 use Rattle.channel.specs.Word.{Letter}

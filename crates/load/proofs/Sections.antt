@@ -1,8 +1,8 @@
 -- What the nets of two sections, one behind the other, say of the two sides.
 -- Assumes nothing.
 use Rattle.std.proofs.Common.{ℕ, ◌+◌, ◌≤◌, ◌≡◌, sym, ◌∙◌, List, ◌++◌, arith, length, take, drop, length-append, take_at, drop_at}
-use mathlib.Core.List.{map-append}
-use lib.ListN.{length-map}
+use Rattle.std.proofs.Math.ListN.{length-map}
+use Rattle.std.proofs.lemmas.List.{map-append}
 use Rattle.channel.specs.Sheet.{Terminal}
 use Rattle.channel.specs.Cut.{nets}
 use Rattle.format.specs.Parts.{terminals_in}

@@ -1,9 +1,6 @@
 -- What a measurement returned: the number and the amount of the list's check, and a density exactly where the list is an assignment.
 -- Assumes nothing.
-use Rattle.std.proofs.Common.{Result, Ok, Err}
-use Prim.Native.Nat.{ℕ}
-use mathlib.Core.Path.{◌≡◌, refl, sym, ◌∙◌, ap}
-use mathlib.Core.List.{List}
+use Rattle.std.proofs.Common.{Result, Ok, Err, ℕ, ◌≡◌, refl, sym, ◌∙◌, ap, List}
 use Rattle.channel.specs.Sheet.{Sheet}
 use Rattle.channel.specs.Density.{density}
 use Rattle.soundness.specs.Read.{sheet_of, read}

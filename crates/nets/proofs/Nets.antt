@@ -1,7 +1,7 @@
 -- Laws of the nets of a sheet's terminals, one after the other.
 -- Assumes nothing.
 use Rattle.std.proofs.Common.{◌≡◌, ℕ, zero, suc, ◌+◌, ◌<◌, ◌≤◌, List, ◌∷◌, ◌++◌, length, get_or, take, drop, set, replicate, sym, refl, ap, ◌∙◌, add-one, arith, length-append, take_all, drop-cons, take-suc, take-suc-set, take_at}
-use lib.ListN.{length-map, get_or-map}
+use Rattle.std.proofs.Math.ListN.{length-map, get_or-map}
 use Rattle.channel.specs.Sheet.{Terminal, no_terminal}
 use Rattle.channel.specs.Cut.{nets}
 use Rattle.terminal.specs.declared.Record.{Record}

@@ -1,10 +1,10 @@
 -- The first and last place of a net on one side say which stretches of the side it stands in, or reaches by leaving.
 -- Assumes nothing.
 use Rattle.std.proofs.Common.{ℕ, zero, suc, ◌-◌, ◌<◌, min, max, ◌≡◌, refl, sym, List, [], ◌∷◌, Bool, true, false, ◌&&◌, ◌||◌, arith, take, drop, leb, ltb, eqb, leb-true, leb-false, le-leb, ltb-true, ltb-false, lt-ltb, le-ltb}
-use mathlib.Core.Bool.{or_assoc, or-false, and-true, and-false}
-use native.Mathlib.Nat.{sub-zero}
-use lib.Seq.{take-nil, drop-nil}
-use borrow.Author.Tests.{lt-leb}
+use Rattle.std.proofs.Math.Bool.{or_assoc, or-false, and-true, and-false}
+use Rattle.std.proofs.Math.Nat.{sub-zero}
+use Rattle.std.proofs.Math.Seq.{take-nil, drop-nil}
+use Rattle.std.proofs.lemmas.Bool.{lt-leb}
 use Rattle.kind.specs.Kinds.{kind_of, leaves_left, leaves_right}
 use Rattle.kind.proofs.Starts.{left_start_lem, right_start_lem}
 use Rattle.channel.specs.Cut.{has, right_of}

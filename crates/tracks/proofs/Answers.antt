@@ -1,8 +1,8 @@
 -- Which answer about tracks is due.
 -- Assumes nothing.
 use Rattle.std.proofs.Common.{Result, Ok, Err, ℕ, ◌≤◌, ◌<◌, ◌≡◌, sym, ap, ◌∙◌, List, [], map, true, false, arith, length, lt-ltb, le-ltb}
-use lib.ListN.{length-map}
-use lib.Seq.{take-length}
+use Rattle.std.proofs.Math.ListN.{length-map}
+use Rattle.std.proofs.Math.Seq.{take-length}
 use Rattle.tracked.specs.declared.TrackRefusal.{TrackRefusal}
 use Rattle.channel.specs.Density.{Pin, distinct}
 use Rattle.channel.proofs.Spans.{length-distinct}

@@ -1,13 +1,6 @@
 -- The lowest free track, where an array holds how far right each track is used: 0 where it is not used yet.
 -- Assumes nothing.
-use Prim.Native.Nat.{ℕ, suc, ◌+◌, ◌≤◌, ◌<◌}
-use native.Mathlib.Omega.{arith}
-use mathlib.Core.Path.{◌≡◌, refl, sym, ap, ◌∙◌}
-use mathlib.Core.List.{List, [], ◌∷◌}
-use mathlib.Core.Bool.{Bool, true, false, cond}
-use lib.ListN.{length, get_or, drop, set, replicate, length-set}
-use lib.Dec.{ltb}
-use borrow.Author.Tests.{ltb-true, ltb-false, lt-ltb, le-ltb, ne_eqb}
+use Rattle.std.proofs.Common.{ℕ, suc, ◌+◌, ◌≤◌, ◌<◌, arith, ◌≡◌, refl, sym, ap, ◌∙◌, List, [], ◌∷◌, Bool, true, false, cond, length, get_or, drop, set, replicate, length-set, ltb, ltb-true, ltb-false, lt-ltb, le-ltb, ne_eqb}
 use Rattle.nets.proofs.Nets.{drop-next, get_or-zeros}
 use Rattle.left_edge.specs.declared.Interval.{Interval}
 use Rattle.left_edge.specs.Lists.{Each}

@@ -1,15 +1,6 @@
 -- What an answer about tracks leaves of the caller's array: its spans fit, and the rest is as it was.
 -- Assumes nothing.
-use Rattle.std.proofs.Common.{Result, Ok, Err}
-use Prim.Native.Nat.{ℕ, ◌≤◌}
-use native.Mathlib.Omega.{arith}
-use mathlib.Core.Path.{◌≡◌, refl, ap, ◌∙◌}
-use mathlib.Core.List.{List, ◌++◌}
-use mathlib.Core.Bool.{Bool, true, false, cond}
-use lib.ListN.{length, drop, length-take}
-use lib.Seq.{length-take-le}
-use lib.Dec.{ltb}
-use borrow.Author.Tests.{ltb-false}
+use Rattle.std.proofs.Common.{Result, Ok, Err, ℕ, ◌≤◌, arith, ◌≡◌, refl, ap, ◌∙◌, List, ◌++◌, Bool, true, false, cond, length, drop, length-take, length-take-le, ltb, ltb-false}
 use Rattle.channel.specs.Sheet.{Sheet}
 use Rattle.channel.specs.Density.{Pin}
 use Rattle.soundness.specs.Read.{sheet_of}

@@ -1,15 +1,9 @@
 -- The scan of the pins for two nets in one column, with an array of the net last seen in each column.
 -- Assumes nothing.
-use Prim.Native.Nat.{ℕ, ◌+◌, ◌<◌}
-use native.Mathlib.Omega.{arith}
-use native.Mathlib.Decide.{ℕ_discrete}
-use mathlib.Core.Path.{◌≡◌, refl, sym, ap, ◌∙◌}
-use mathlib.Core.List.{List, [], ◌∷◌}
-use mathlib.Core.Bool.{Bool, true, false, not, ◌&&◌, ◌||◌, or_assoc, or-false, or-true, true≢false}
-use lib.ListN.{length, get_or, drop, set, replicate, length-set}
-use lib.Seq.{get_or-set_same, get_or-set_other}
-use lib.Dec.{eqb}
-use borrow.Author.Tests.{eqb-true, eqb-false, eq-eqb, ne_eqb}
+use Rattle.std.proofs.Common.{ℕ, ◌+◌, ◌<◌, arith, ◌≡◌, refl, sym, ap, ◌∙◌, List, [], ◌∷◌, Bool, true, false, not, ◌&&◌, ◌||◌, true≢false, length, get_or, drop, set, replicate, length-set, get_or-set_same, get_or-set_other, eqb, eqb-true, eq-eqb, ne_eqb}
+use Rattle.std.proofs.Math.Bool.{or_assoc, or-false, or-true}
+use Rattle.std.proofs.Math.Decide.{ℕ_discrete}
+use Rattle.std.proofs.lemmas.Bool.{eqb-false}
 use Rattle.channel.specs.Density.{any, Pin}
 use Rattle.nets.proofs.Nets.{drop-next, get_or-zeros}
 use Rattle.ends.specs.Ends.{pins_of}

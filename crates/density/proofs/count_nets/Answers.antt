@@ -1,5 +1,5 @@
 use Rattle.std.proofs.Common.{rules, ℕ, length, ap, ◌∙◌}
-use lib.ListN.{length-replicate}
+use Rattle.std.proofs.Math.ListN.{length-replicate}
 use Rattle.nets.specs.Distinct.{nets_left}
 use Rattle.density.proofs.Sums.{counted_none, counts_small, counted-more}
 use Rattle.density.proofs.count_nets.Goals as goal

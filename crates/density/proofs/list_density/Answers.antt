@@ -1,7 +1,7 @@
 -- `density::list_density` meets its contract: the greatest of the counts is the density.
 -- Assumes nothing.
 use Rattle.std.proofs.Common.{ℕ, ◌<◌, List, length, drop, replicate, sym, ap, ◌∙◌, arith}
-use mathlib.Core.Path.{fun_ext}
+use Rattle.std.proofs.Math.Path.{fun_ext}
 use Rattle.channel.specs.Density.{maximum_to}
 use Rattle.format.specs.Parts.{terminals_in}
 use Rattle.density.specs.Counted.{counted_at}

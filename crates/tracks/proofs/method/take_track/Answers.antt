@@ -1,11 +1,7 @@
 -- `tracks::method::take_track` meets its contract: the right end is written at the lowest free track.
 -- Assumes nothing.
-use Prim.Native.Nat.{ℕ}
-use mathlib.Core.Path.{◌≡◌, ◌∙◌, ap}
-use mathlib.Core.Bool.{true}
-use mathlib.Core.List.{List}
-use borrow.Author.Tests.{not-false}
-use lib.ListN.{set}
+use Rattle.std.proofs.Common.{ℕ, ◌≡◌, ◌∙◌, ap, true, List, set}
+use Rattle.std.proofs.lemmas.Bool.{not-false}
 use Rattle.tracks.proofs.Free.{place_set}
 use Rattle.tracks.proofs.method.take_track.Goals as goal
 
