@@ -1,6 +1,6 @@
 -- What a letter of the walk does: 0 is the empty column's, 1 that of a top pin alone, 2 that of a bottom pin alone, 3 that of both.
 -- Assumes nothing.
-use Rattle.std.specs.Prelude.{ℕ, ◌+◌, ◌-◌, List, Bool, cond, ◌&&◌, ◌||◌, set, ltb, eqb}
+use Rattle.std.specs.Prelude.{ℕ, ◌+◌, ◌-◌, List, Bool, cond, ◌&&◌, ◌||◌, ◌≡◌, set, ltb, eqb}
 use Rattle.letters.specs.declared.Letter.{Letter}
 use Rattle.letters.specs.declared.Letter.TheVariants.{Empty, Top, Bottom, Both}
 use Rattle.letters.specs.declared.Progress.{Progress}
@@ -38,3 +38,8 @@ abbrev pub written : ℕ → ℕ → Progress → List ℕ → List ℕ
 written p letter m columns =
     let tops : List ℕ = cond (has_top_pin letter m.i) (set columns (m.i - 1) m.c) columns in
     cond (has_bottom_pin letter m.j) (set tops (p + (m.j - 1)) m.c) tops
+
+-- two numbers that place the same pins
+pub record SameLetter (one other : ℕ) : Type 0 where
+  pub top : (i : ℕ) → has_top_pin one i ≡ has_top_pin other i
+  pub bottom : (j : ℕ) → has_bottom_pin one j ≡ has_bottom_pin other j

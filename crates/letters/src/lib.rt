@@ -24,6 +24,22 @@ pub enum Letter {
     Both,
 }
 
+// The letter of a number; any number but 1 to 3 places nothing.
+impl From<u8> for Letter {
+    ghost use Rattle.letters.specs.Letters.{SameLetter};
+
+    ghost from_gives = { λ number letter. SameLetter number (letter_number letter) };
+
+    fn from(number: u8) -> Self {
+        match number {
+            1 => Letter::Top,
+            2 => Letter::Bottom,
+            3 => Letter::Both,
+            _ => Letter::Empty,
+        }
+    }
+}
+
 // Whether a letter has a top pin, of i that are left.
 fn has_top_pin(letter: Letter, i: usize) -> bool
     ensures { result ≡ has_top_pin (letter_number letter) i }

@@ -13,7 +13,7 @@ use Rattle.sheet.specs.Sections.{Held, sheet_held}
 use Rattle.std.specs.Borrow.{Bor}
 use Rattle.format.specs.Parts.{terminals_in}
 use Rattle.sheet.specs.Parts.{opened_of}
-use Rattle.sheet.proofs.Laws.{Opens, opens, same_sheet, same_shape}
+use Rattle.sheet.proofs.Laws.{Opens, opens, held_sheet, held_shape}
 use Rattle.list.specs.Answer.{side_allowed, all_allowed, first_of, side_amount, first_amount}
 use Rattle.list.specs.Answer.{is_zero, unless, columns_listed, sheet_listed, listed_of}
 use Rattle.refusals.specs.declared.ListRefusal.{ListRefusal}
@@ -99,7 +99,7 @@ module _ (s : Bor (List ℕ)) (cs : List ℕ) (n : Layout) (opening : opened_of 
   module _ (long : length cs ≡ n.shape.pins) (m : Sections) (held : Held s n m) where
     pub counted : (m.shape.top ≡ length (terminals_in m.top.now)) × (length cs ≡ m.shape.top + length (terminals_in m.bottom.now))
     counted =
-        let shape = same_shape s n laws m held in
+        let shape = held_shape s n laws m held in
         let p = ap (λ (f : Shape). f.top) shape in
         (p, omega (arith, long, p, ap (λ (f : Shape). f.pins) shape, ap (λ (f : Shape). f.pins) held.shape))
 
@@ -107,5 +107,5 @@ module _ (s : Bor (List ℕ)) (cs : List ℕ) (n : Layout) (opening : opened_of 
     unfolding sheet_listed
     columns-checked r e =
         e
-        ∙ ap (λ (s : Sheet). columns_listed s cs n) (same_sheet s n laws m held)
+        ∙ ap (λ (s : Sheet). columns_listed s cs n) (held_sheet s n laws m held)
         ∙ sym (sound_listed ∙ rw (eq-eqb (length cs) (length (sheet_of b).top + length (sheet_of b).bottom) (long ∙ pins_counted)))

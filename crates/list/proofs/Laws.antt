@@ -12,7 +12,7 @@ use Rattle.sheet.specs.Sections.{Held, sheet_held, Beside}
 use Rattle.std.specs.Borrow.{Bor}
 use Rattle.soundness.proofs.Laws.{read-sound}
 use Rattle.sheet.specs.Parts.{opened_of}
-use Rattle.sheet.proofs.Laws.{Opens, opens, same_sheet, same_shape}
+use Rattle.sheet.proofs.Laws.{Opens, opens, held_sheet, held_shape}
 use Rattle.list.specs.Answer.{all_allowed, is_zero, first_amount, columns_listed, sheet_listed, listed_as, listed_of}
 use Rattle.list.specs.Returned.{number_of}
 use Rattle.refusals.specs.declared.Refusal.{Refusal}
@@ -56,12 +56,12 @@ module _ (s : Bor (List ℕ)) (cs : List ℕ) (n : Layout) (answer : listed_of s
   laws = assigns s.now cs n answer
 
   pub same : sheet_held m ≡ sheet_of s.now
-  same = same_sheet s n laws.opens m held
+  same = held_sheet s n laws.opens m held
 
   pub beside : Beside m cs
   beside =
       let sound = read-sound s.now (sheet_of s.now) laws.opens.reads in
-      let shape = same_shape s n laws.opens m held in
+      let shape = held_shape s n laws.opens m held in
       let p = ap (λ (f : Shape). f.top) shape in
       let pins = ap (λ (f : Shape). f.pins) shape in
       let given = ap (λ (f : Shape). f.pins) held.shape in
@@ -71,6 +71,5 @@ module _ (s : Bor (List ℕ)) (cs : List ℕ) (n : Layout) (answer : listed_of s
         tops = p;
         long = omega (arith, laws.long, pins, p, given);
         few = omega (arith, laws.long, ap (λ (f : Shape). f.pins) whole, sound.counts);
-        some = omega (arith, length, sound.columns);
         short = omega (arith, length, sound.columns);
       }

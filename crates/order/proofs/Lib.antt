@@ -1,3 +1,4 @@
 pub mod Sorted
+pub mod Selected
 pub mod Pins
 pub mod Keys

@@ -13,7 +13,7 @@ use Rattle.sheet.specs.declared.Sections.{Sections}
 use Rattle.sheet.specs.Sections.{Held, sheet_held}
 use Rattle.std.specs.Borrow.{Bor}
 use Rattle.soundness.proofs.Laws.{read-sound}
-use Rattle.sheet.proofs.Laws.{opened_refused, Opens, opens, same_sheet, same_shape}
+use Rattle.sheet.proofs.Laws.{opened_refused, Opens, opens, held_sheet, held_shape}
 use Rattle.searched.specs.declared.SearchRefusal.{SearchRefusal}
 use Rattle.searched.specs.declared.SearchRefusal.TheVariants as searched
 use Rattle.search.specs.Answer.{pins_needed, cells_needed, answer_as, answer_in, answer_if, searched_of}
@@ -77,13 +77,13 @@ module _ (s : Bor (List ℕ)) (columns work : List ℕ) where
     -- the sections are those of the sheet
     module _ (m : Sections) (held : Held s layout m) where
       same : sheet_held m ≡ sheet_of b
-      same = same_sheet s layout laws m held
+      same = held_sheet s layout laws m held
 
       pub solve-asked : n.pins ≤ length columns → n.cells ≤ length work → AsksSolve m (length columns) (length work)
       solve-asked g h =
           record {
             sound = rw same (read-sound b (sheet_of b) laws.reads);
-            numbers = same_shape s layout laws m held;
+            numbers = held_shape s layout laws m held;
             pins = rw held.shape g;
             cells = rw held.shape h;
           }

@@ -16,7 +16,7 @@ use Rattle.sheet.specs.declared.Shape.{Shape}
 use Rattle.sheet.specs.declared.Sections.{Sections}
 use Rattle.sheet.specs.Sections.{Held, sheet_held}
 use Rattle.std.specs.Borrow.{Bor}
-use Rattle.sheet.specs.Parts.{shape, shape_as, shape_of, layout_of, opened_of, section_of, entry_of, entry_in}
+use Rattle.sheet.specs.Parts.{shape, shape_as, shape_of, layout_of, opened_of, section_of, sheet_in, entry_of, entry_in}
 use Rattle.soundness.proofs.Laws.{sound-read, read_checked, read-refused}
 use Rattle.sheet.proofs.Places.{opened_sound, layout_shape, sound-section}
 -- what the check refuses does not open
@@ -60,15 +60,24 @@ opens b n h =
       bottom = ap terminals_in (section Bottom) ∙ section-terminals b (sheet_of b) reads Bottom;
     }
 
--- its sections make the sheet, and have its shape
-module _ (s : Bor (List ℕ)) (n : Layout) (laws : Opens s.now n) (m : Sections) (held : Held s n m) where
-  pub same_sheet : sheet_held m ≡ sheet_of s.now
+-- its length and its two parts make the sheet, of its shape
+module _ (b : List ℕ) (n : Layout) (laws : Opens b n) (top bottom : List ℕ) (is_top : top ≡ bytes_of b n.top)
+    (is_bottom : bottom ≡ bytes_of b n.bottom) where
+  pub same_sheet : sheet_in n.shape.columns top bottom ≡ sheet_of b
   same_sheet =
-      let columns : m.shape.columns ≡ (sheet_of s.now).columns = ap (λ (f : Shape). f.columns) (held.shape ∙ laws.shape) in
-      rw (columns, held.top.bytes, held.bottom.bytes, laws.top, laws.bottom)
+      let columns : n.shape.columns ≡ (sheet_of b).columns = ap (λ (f : Shape). f.columns) laws.shape in
+      rw (columns, is_top, is_bottom, laws.top, laws.bottom)
 
-  pub same_shape : m.shape ≡ shape m.shape.columns (length (terminals_in m.top.now)) (length (terminals_in m.bottom.now))
-  same_shape = held.shape ∙ laws.shape ∙ sym (ap (λ (s : Sheet). shape s.columns (length s.top) (length s.bottom)) same_sheet)
+  pub same_shape : n.shape ≡ shape n.shape.columns (length (terminals_in top)) (length (terminals_in bottom))
+  same_shape = laws.shape ∙ sym (ap (λ (s : Sheet). shape s.columns (length s.top) (length s.bottom)) same_sheet)
+
+-- and so do its sections
+module _ (s : Bor (List ℕ)) (n : Layout) (laws : Opens s.now n) (m : Sections) (held : Held s n m) where
+  pub held_sheet : sheet_held m ≡ sheet_of s.now
+  held_sheet = rw held.shape (same_sheet s.now n laws m.top.now m.bottom.now held.top.bytes held.bottom.bytes)
+
+  pub held_shape : m.shape ≡ shape m.shape.columns (length (terminals_in m.top.now)) (length (terminals_in m.bottom.now))
+  held_shape = rw held.shape (same_shape s.now n laws m.top.now m.bottom.now held.top.bytes held.bottom.bytes)
 
 -- the entry at a place of a section is that of its terminals
 pub entry_in_lem : (part : List ℕ) (place : ℕ) → entry_in part place ≡ entry_of (terminals_in part) place

@@ -23,5 +23,4 @@ pub record Beside (m : Sections) (columns : List ℕ) : Type 0 where
   pub tops : m.shape.top ≡ length (terminals_in m.top.now)
   pub long : length columns ≡ m.shape.top + length (terminals_in m.bottom.now)
   pub few : length columns ≤ 128
-  pub some : 1 ≤ m.shape.columns
   pub short : m.shape.columns ≤ 64

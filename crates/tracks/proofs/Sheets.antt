@@ -1,6 +1,6 @@
 -- Tracks, from what the list's check and the routing of an assignment answer.
 -- Assumes nothing.
-use Rattle.std.proofs.Common.{Result, Ok, Err, ◌≡◌, ℕ, List, [], sym, ap, subst}
+use Rattle.std.proofs.Common.{arith, Result, Ok, Err, ◌≡◌, ℕ, List, [], sym, ap, subst}
 use Rattle.std.specs.Borrow.{Bor}
 use Rattle.channel.specs.Sheet.{Sheet}
 use Rattle.refusals.specs.declared.ListRefusal.{ListRefusal}
@@ -37,6 +37,7 @@ module _ (s : Bor (List ℕ)) (cs : List ℕ) (n : Layout) (answer : listed_of s
       let length = ap (λ (t : Sheet). t.columns) (same s cs n answer m held) in
       record {
         beside = beside s cs n answer m held;
+        some = omega (arith, length, sound.columns);
         inside = subst (λ (l : ℕ). Each (Inside l) cs) (sym length) (assignment_inside (sheet_of s.now) sound cs laws.assigned);
       }
 

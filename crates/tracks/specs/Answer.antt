@@ -62,4 +62,5 @@ GivesFor s cs room r = GivesIn s.columns (pins (s.top ++ s.bottom) cs) (nets (s.
 -- an assignment beside the sections of its sheet
 pub record AsksTracks (m : Sections) (columns : List ℕ) : Type 0 where
   pub beside : Beside m columns
+  pub some : 1 ≤ m.shape.columns
   pub inside : Each (λ (c : ℕ). (1 ≤ c) × (c ≤ m.shape.columns)) columns
