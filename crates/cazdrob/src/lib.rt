@@ -10,7 +10,7 @@ ghost use Rattle.cazdrob.specs.Host.{check_number, HostMeasures, HostSearches, H
 
 use left_edge::Span;
 use refusals::{amount_of, number_of};
-use tracked::{Counts, Tracked};
+use tracked::{Counts, Tracked, counts_in};
 
 // The number of the sheet's refusal; 0 for a sound sheet.
 pub fn cazdrob_check(s: &[u8]) -> u32
@@ -71,7 +71,7 @@ pub fn cazdrob_tracks(
 {
     let routed = tracks::route(s, columns, spans.len());
     span_array::copy_spans(spans, &routed);
-    put_answer(routed.map(|r| r.counts()), nets, tracks, amount)
+    put_answer(counts_in(&routed), nets, tracks, amount)
 }
 
 // Stores the numbers of an answer about tracks.

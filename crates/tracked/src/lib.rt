@@ -3,6 +3,7 @@
 
 ghost use Rattle.std.specs.Prelude.{◌≡◌};
 ghost use Rattle.tracked.specs.Numbers.{track_number, track_amount};
+ghost use Rattle.tracked.specs.Routed.{counts_in};
 
 use arrayvec::ArrayVec;
 use left_edge::Span;
@@ -68,6 +69,16 @@ impl HasAmount for TrackRefusal {
             TrackRefusal::TwoNets => 0,
             TrackRefusal::SpanBuffer => 0,
         }
+    }
+}
+
+// The numbers of an answer that has its spans with it, which stay where they are.
+pub fn counts_in(answer: &Result<Routed, TrackRefusal>) -> Tracked
+    ensures { result ≡ counts_in answer.now }
+{
+    match answer {
+        Ok(routed) => Ok(routed.counts()),
+        Err(why) => Err(*why),
     }
 }
 
