@@ -1,6 +1,7 @@
 -- An answer about tracks that has its spans with it.
 -- Assumes nothing.
-use Rattle.std.specs.Prelude.{List, [], length, Result, Ok, Err}
+use Rattle.std.specs.Prelude.{ℕ, List, [], length, Result, Ok, Err}
+use Rattle.arrayvec.specs.ArrayVec.{ArrayVec}
 use Rattle.left_edge.specs.declared.Span.{Span}
 use Rattle.tracked.specs.declared.Counts.{Counts}
 use Rattle.tracked.specs.declared.Routed.{Routed}
@@ -17,3 +18,8 @@ counts_in (Err why) = Err why
 abbrev pub spans_given : Result Routed TrackRefusal → List Span
 spans_given (Ok routed) = routed.spans.items
 spans_given (Err why) = []
+
+-- the answer with spans that lie beside it
+abbrev pub routed_of : ArrayVec Span → Result ℕ TrackRefusal → Result Routed TrackRefusal
+routed_of spans (Ok tracks) = Ok (record { spans = spans; tracks = tracks })
+routed_of spans (Err why) = Err why

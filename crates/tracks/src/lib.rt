@@ -11,8 +11,11 @@ ghost use Rattle.left_edge.specs.Spans.{spans_of, two_nets};
 ghost use Rattle.order.specs.Keys.{Columns};
 ghost use Rattle.sheet.specs.Sections.{sheet_held};
 ghost use Rattle.tracks.specs.Answer.{Gives, GivesIn, GivesFor, AsksTracks, tracked_of};
+ghost use Rattle.tracked.specs.Routed.{routed_of};
 
+use arrayvec::ArrayVec;
 use ends::PinList;
+use left_edge::Span;
 use method::route_keys;
 use nets::all_nets;
 use order::order_nets;
@@ -26,13 +29,21 @@ pub fn route(s: &[u8], columns: &[u8], room: usize) -> Result<Routed, TrackRefus
         (spans_of (sheet_of s.now) columns.now) result }
 {
     let layout = list::check(s, columns)?;
-    route_columns(layout.sections(s), columns, room)
+    let mut spans = ArrayVec::new();
+    let tracks = route_columns(layout.sections(s), columns, room, &mut spans)?;
+    Ok(Routed { spans, tracks })
 }
 
-// 18 and 9 of an assignment, from the sections of its sheet.
-fn route_columns(sections: Sections, columns: &[u8], room: usize) -> Result<Routed, TrackRefusal>
+// 18 and 9 of an assignment, from the sections of its sheet; else the spans, and how many tracks they take. The spans are lent room, as
+// a vector that is given is copied on its way.
+fn route_columns(
+    sections: Sections,
+    columns: &[u8],
+    room: usize,
+    spans: &mut ArrayVec<Span, 128>,
+) -> Result<u16, TrackRefusal>
     requires { AsksTracks sections columns.now }
-    ensures { GivesFor (sheet_held sections.entry) columns.now room result }
+    ensures { GivesFor (sheet_held sections.entry) columns.now room (routed_of spans.new result) }
 {
     let n = columns.len();
     let mut nets: [u16; 128] = [0; 128];
@@ -46,22 +57,28 @@ fn route_columns(sections: Sections, columns: &[u8], room: usize) -> Result<Rout
         nets: &nets[..n],
         columns,
     };
-    route_nets(pins, sections.shape.columns as u8, room)
+    route_nets(pins, sections.shape.columns as u8, room, spans)
 }
 
 // The same from the pins.
-fn route_nets(pins: PinList, l: u8, room: usize) -> Result<Routed, TrackRefusal>
+fn route_nets(
+    pins: PinList,
+    l: u8,
+    room: usize,
+    spans: &mut ArrayVec<Span, 128>,
+) -> Result<u16, TrackRefusal>
     requires { Columns pins.columns.now l × (length pins.nets.now ≤ 128) }
-    ensures { GivesIn l (pins_in pins.entry) pins.entry.nets.now room result }
+    ensures { GivesIn l (pins_in pins.entry) pins.entry.nets.now room (routed_of spans.new result) }
 {
     if two_nets(pins) {
         return Err(TrackRefusal::TwoNets);
     }
-    let keys = order_nets(pins, l);
+    let mut keys = ArrayVec::new();
+    order_nets(pins, l, &mut keys);
     if room < keys.len() {
         return Err(TrackRefusal::SpanBuffer);
     }
-    Ok(route_keys(&keys))
+    Ok(route_keys(&keys, spans))
 }
 
 // Whether a column has pins of two nets.

@@ -8,15 +8,14 @@ ghost use Rattle.order.specs.Keys.{interval_at};
 use arrayvec::ArrayVec;
 use left_edge::{Interval, Span};
 use order::interval_at;
-use tracked::Routed;
 
-// The spans of intervals in order, each given as its key, and how many tracks they take.
-pub fn route_keys(keys: &[u32]) -> Routed
+// Lists the spans of intervals in order, each given as its key, and gives how many tracks they take.
+pub fn route_keys(keys: &[u32], spans: &mut ArrayVec<Span, 128>) -> u16
     requires { (length keys.now ≤ 128) × Each (λ (k : ℕ). 1 ≤ (interval_at k).left) keys.now }
-    ensures spans { result.spans.items ≡ left_edge (map interval_at keys.now) }
-    ensures tracks { result.tracks ≡ greatest (left_edge (map interval_at keys.now)) }
+    ensures spans { spans.new.items ≡ left_edge (map interval_at keys.now) }
+    ensures tracks { result ≡ greatest (left_edge (map interval_at keys.now)) }
 {
-    let mut spans = ArrayVec::new();
+    spans.clear();
     // how far right each track is used
     let mut ends: [u8; 128] = [0; 128];
     let mut tracks: u16 = 0;
@@ -26,7 +25,7 @@ pub fn route_keys(keys: &[u32]) -> Routed
         spans.push(span_on(x, track));
         tracks = tracks.max(track);
     }
-    Routed { spans, tracks }
+    tracks
 }
 
 fn span_on(x: Interval, track: u16) -> Span

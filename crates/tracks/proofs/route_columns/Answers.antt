@@ -7,13 +7,14 @@ use Rattle.format.specs.Parts.{terminals_in}
 use Rattle.nets.proofs.Nets.{nets-front}
 use Rattle.ends.specs.Ends.{pins_of}
 use Rattle.ends.proofs.Pins.{pins-nets}
+use Rattle.tracked.specs.Routed.{routed_of}
 use Rattle.tracks.specs.Answer.{GivesIn}
 use Rattle.tracks.proofs.route_columns.Goals as goal
 
 pub returns : goal.returns
 returns c =
     let a = c.args in
-    let r = c.route_nets.result in
+    let r = routed_of c.route_nets.new.spans c.route_nets.result in
     let l : ℕ = a.sections.shape.columns in
     let tops = terminals_in a.sections.top.now in
     let bottoms = terminals_in a.sections.bottom.now in

@@ -6,6 +6,7 @@ use Rattle.ends.specs.Pins.{pins_in}
 use Rattle.left_edge.specs.declared.Span.{Span}
 use Rattle.left_edge.specs.Method.{left_edge, greatest}
 use Rattle.order.specs.Keys.{interval_at}
+use Rattle.tracked.specs.Routed.{routed_of}
 use Rattle.tracks.proofs.Answers.{gives_two_nets, gives-short, gives-tracks, keys_count, keys_spans}
 use Rattle.tracks.proofs.route_nets.Goals as goal
 
@@ -16,24 +17,24 @@ returns-then-two_nets c =
 pub returns-then-room-len : goal.returns-then-room-len
 returns-then-room-len c =
     let pins = c.args.pins in
-    let (count, _) = keys_count c.args.l (pins_in pins) pins.nets.now _ c.order_nets-keys.ensures.keys in
+    let (count, _) = keys_count c.args.l (pins_in pins) pins.nets.now _ c.order_nets.ensures.keys in
     gives-short _ _ _ (Err SpanBuffer) (sym c.two_nets.ensures ∙ c.if-two_nets.false) (omega (arith, c.if-room-len.true, count)) (refl, refl)
 
 pub route_keys-requires : goal.route_keys-requires
 route_keys-requires c =
     let pins = c.args.pins in
     let now = c.deref.ensures.0 in
-    let (_, few) = keys_count c.args.l (pins_in pins) pins.nets.now _ c.order_nets-keys.ensures.keys in
-    (omega (arith, ap (λ (ks : List ℕ). length ks) now, few, c.requires.1), rw now c.order_nets-keys.ensures.start)
+    let (_, few) = keys_count c.args.l (pins_in pins) pins.nets.now _ c.order_nets.ensures.keys in
+    (omega (arith, ap (λ (ks : List ℕ). length ks) now, few, c.requires.1), rw now c.order_nets.ensures.start)
 
 pub returns : goal.returns
 returns c =
     let pins = c.args.pins in
-    let keys = c.order_nets-keys.ensures in
+    let keys = c.order_nets.ensures in
     let (count, _) = keys_count c.args.l (pins_in pins) pins.nets.now _ keys.keys in
     let edge = ap (λ (ks : List ℕ). left_edge (map interval_at ks)) c.deref.ensures.0
     ∙ keys_spans c.args.l (pins_in pins) pins.nets.now _ keys.intervals in
     let spans = c.route_keys.ensures.spans ∙ edge in
     let tracks = c.route_keys.ensures.tracks ∙ ap greatest edge in
-    gives-tracks _ _ _ (Ok c.route_keys.result) (sym c.two_nets.ensures ∙ c.if-two_nets.false) (omega (arith, c.if-room-len.false, count))
+    gives-tracks _ _ _ (routed_of c.route_keys.new.spans (Ok c.route_keys.result)) (sym c.two_nets.ensures ∙ c.if-two_nets.false) (omega (arith, c.if-room-len.false, count))
     (ap₂ (λ (n t : ℕ). Ok (record { nets = n; tracks = t })) (ap (λ (xs : List Span). length xs) spans) tracks) spans

@@ -5,7 +5,7 @@ use Rattle.tracks.proofs.method.route_keys.Goals as goal
 
 pub loop-key-init : goal.loop-key-init
 loop-key-init c =
-    rw c.new-spans.ensures (on_none c.args.keys.now c.requires.0 c.requires.1)
+    rw c.clear.ensures (on_none c.args.keys.now c.requires.0 c.requires.1)
 
 pub take_track-track-requires : goal.take_track-track-requires
 take_track-track-requires c =
