@@ -10,7 +10,7 @@ use arrays::{LoadTable, RuleTable};
 use bits::below;
 use bound::lower_bound;
 use entry::{Filling, Grid};
-use table::{fill, meets};
+use table::{Follower, Plane, fill};
 use walk::Walk;
 
 // No density is above this.
@@ -65,17 +65,13 @@ impl Pass<'_> {
     {
         let Plan { grid, p, q, l } = self.plan;
         self.fill_under(work, bound);
-        meets(
+        let last = Plane {
             work,
             grid,
-            p,
-            q,
-            0,
-            grid.rows - 1,
-            63,
-            u64::MAX,
-            below(l + 1 - q),
-        )
+            i: p,
+            j: q,
+        };
+        last.meets(0, grid.rows - 1, Follower::NONE, below(l + 1 - q))
     }
 
     // The least bound under which all pins can be placed, where `MOST` is such a bound and `failed` is none. It is most often close

@@ -10,11 +10,11 @@ ghost use Rattle.table.specs.Planes.{AsksTable, meeting};
 ghost use Rattle.walk.specs.Walking.{AsksWalk, AsksStep};
 
 use arrays::RuleTable;
-use bits::{bit, single};
+use bits::single;
 use channel::Side;
 use entry::Grid;
 use letters::{Letter, Progress, behind, put};
-use table::{back, meets};
+use table::{Follower, Plane};
 
 // A filled table, with the rules that it was filled by: p top and q bottom pins.
 #[derive(Clone, Copy)]
@@ -27,24 +27,18 @@ pub struct Walk<'a> {
     ghost lies: { AsksWalk work.now grid p q },
 }
 
-// The steps from the last pin to be placed to the one behind it.
-fn steps_to(rules: &RuleTable, side: Side, i: usize, n: usize) -> u64
-    requires { (i ≤ n) × (n ≤ pins) }
-    ensures { result ≡ steps_to rules.now.words (side_number side) i n }
+// The pin behind the last one to be placed, which is placed at `at`.
+fn follower(rules: &RuleTable, side: Side, i: usize, n: usize, at: usize) -> Follower
+    requires { (i ≤ n) × (n ≤ pins) × (i < n → i + 1 ≤ at) }
+    ensures { (result.at ≡ stands_at i n at) × (result.by ≡ steps_to rules.now.words (side_number side) i n) }
 {
     if i == n {
-        u64::MAX
-    } else {
-        rules.range(side, i + 1)
+        return Follower::NONE;
     }
-}
-
-// Where that one stands, less i + 1.
-fn stands_at(i: usize, n: usize, at: usize) -> usize
-    requires { (i ≤ n) × (i < n → i + 1 ≤ at) }
-    ensures { result ≡ stands_at i n at }
-{
-    if i == n { 63 } else { at - (i + 1) }
+    Follower {
+        at: at - (i + 1),
+        by: rules.range(side, i + 1),
+    }
 }
 
 impl<'a> Walk<'a> {
@@ -59,9 +53,7 @@ impl<'a> Walk<'a> {
         if left < j {
             return 0;
         }
-        let next = stands_at(j, self.q, m.bottom);
-        let by = steps_to(self.rules, Side::Bottom, j, self.q);
-        back(left - j, next, by)
+        follower(self.rules, Side::Bottom, j, self.q, m.bottom).back(left - j)
     }
 
     // Whether a row from `low` to `high` that may hold the last top pin meets a set of numbers.
@@ -71,9 +63,14 @@ impl<'a> Walk<'a> {
         ensures { let w = self.entry in result ≡ meeting w.work.now w.grid m.i m.j low high
             (stands_at m.i w.p m.top) (steps_to w.rules.now.words 0 m.i w.p) set }
     {
-        let next = stands_at(m.i, self.p, m.top);
-        let by = steps_to(self.rules, Side::Top, m.i, self.p);
-        meets(self.work, self.grid, m.i, m.j, low, high, next, by, set)
+        let plane = Plane {
+            work: self.work,
+            grid: self.grid,
+            i: m.i,
+            j: m.j,
+        };
+        let next = follower(self.rules, Side::Top, m.i, self.p, m.top);
+        plane.meets(low, high, next, set)
     }
 
     // Whether the column can be empty.
@@ -117,9 +114,8 @@ impl<'a> Walk<'a> {
             return false;
         }
         let number = c - j;
-        let next = stands_at(j, self.q, m.bottom);
-        let by = steps_to(self.rules, Side::Bottom, j, self.q);
-        bit(by, next - number) && self.empty_fits(m, single(number))
+        let next = follower(self.rules, Side::Bottom, j, self.q, m.bottom);
+        next.near(number) && self.empty_fits(m, single(number))
     }
 
     // The smallest letter after which the rest can still be placed.

@@ -4,7 +4,7 @@ use Rattle.std.proofs.Common.{◌∙◌, sym}
 use Rattle.walk.proofs.Choices.{pin_below}
 use Rattle.walk.proofs.Walk.bottom_fits.Goals as goal
 
-pub returns-then-bit : goal.returns-then-bit
-returns-then-bit c =
-    pin_below c.args.self c.args.m _ _ _ _ c.if-j-eq0.false c.if-c-j.false c.stands_at-next.ensures c.steps_to-by.ensures
-    (sym c.bit.ensures ∙ c.if-bit.true) c.single.ensures c.empty_fits.ensures
+pub returns-then-near : goal.returns-then-near
+returns-then-near c =
+    pin_below c.args.self c.args.m _ _ _ _ c.if-j-eq0.false c.if-c-j.false c.follower-next.ensures.0 c.follower-next.ensures.1
+    (sym c.near.ensures ∙ c.if-near.true) c.single.ensures c.empty_fits.ensures
