@@ -41,102 +41,115 @@ fn follower(rules: &RuleTable, side: Side, i: usize, n: usize, at: usize) -> Fol
     }
 }
 
-impl<'a> Walk<'a> {
+// How far a walk has come, with a column left.
+#[derive(Clone, Copy)]
+struct Step<'a> {
+    walk: Walk<'a>,
+    m: Progress,
+    ghost stands: { AsksStep walk.p walk.q m × (0 < m.c) },
+}
+
+impl Step<'_> {
     // The numbers left of the column.
     #[tactic(auto, using(crate::proofs::Choices::no_lefts))]
-    fn left_numbers(self, m: Progress) -> u64
-        requires { (0 < m.c) × (m.c ≤ 64) × (m.j ≤ self.q) × (m.j < self.q → m.c < m.bottom) }
-        ensures { let w = self.entry in (y : ℕ) → y < 64 → bit_of result y ≡ lefts w.rules.now.words w.q m y }
+    fn left_numbers(self) -> u64
+        ensures { let s = self.entry in let w = s.walk in let m = s.m in
+            (y : ℕ) → y < 64 → bit_of result y ≡ lefts w.rules.now.words w.q m y }
     {
-        let j = m.j;
-        let left = m.c - 1;
+        let w = self.walk;
+        let Progress { c, j, bottom, .. } = self.m;
+        let left = c - 1;
         if left < j {
             return 0;
         }
-        follower(self.rules, Side::Bottom, j, self.q, m.bottom).back(left - j)
+        follower(w.rules, Side::Bottom, j, w.q, bottom).back(left - j)
     }
 
     // Whether a row from `low` to `high` that may hold the last top pin meets a set of numbers.
-    fn rows_meet(self, m: Progress, low: usize, high: usize, set: u64) -> bool
-        requires { (m.i ≤ self.p) × (m.j < self.grid.across) × (low ≤ high) × (high < self.grid.rows)
-            × (m.i < self.p → high + (m.i + 1) ≤ m.top) }
-        ensures { let w = self.entry in result ≡ meeting w.work.now w.grid m.i m.j low high
-            (stands_at m.i w.p m.top) (steps_to w.rules.now.words 0 m.i w.p) set }
+    fn rows_meet(self, low: usize, high: usize, set: u64) -> bool
+        requires { let w = self.walk in let m = self.m in
+            (low ≤ high) × (high < w.grid.rows) × (m.i < w.p → high + (m.i + 1) ≤ m.top) }
+        ensures { let s = self.entry in let w = s.walk in let m = s.m in
+            result ≡ meeting w.work.now w.grid m.i m.j low high (stands_at m.i w.p m.top)
+            (steps_to w.rules.now.words 0 m.i w.p) set }
     {
+        let w = self.walk;
+        let m = self.m;
         let plane = Plane {
-            work: self.work,
-            grid: self.grid,
+            work: w.work,
+            grid: w.grid,
             i: m.i,
             j: m.j,
         };
-        let next = follower(self.rules, Side::Top, m.i, self.p, m.top);
+        let next = follower(w.rules, Side::Top, m.i, w.p, m.top);
         plane.meets(low, high, next, set)
     }
 
     // Whether the column can be empty.
     #[tactic(auto, using(crate::proofs::Choices::rows_left))]
-    fn empty_fits(self, m: Progress, lefts: u64) -> bool
-        requires { AsksStep self.p self.q m × (0 < m.c) }
-        ensures { let w = self.entry in result ≡ empty_meets w.work.now w.rules.now.words w.grid w.p m lefts }
+    fn empty_fits(self, lefts: u64) -> bool
+        ensures { let s = self.entry in let w = s.walk in let m = s.m in
+            result ≡ empty_meets w.work.now w.rules.now.words w.grid w.p m lefts }
     {
-        let i = m.i;
-        let left = m.c - 1;
+        let Progress { c, i, .. } = self.m;
+        let left = c - 1;
         if left < i {
             return false;
         }
-        let high = (left - i).min(self.grid.rows - 1);
-        self.rows_meet(m, 0, high, lefts)
+        let high = (left - i).min(self.walk.grid.rows - 1);
+        self.rows_meet(0, high, lefts)
     }
 
     // Whether it can hold a top pin alone.
     #[tactic(auto, using(crate::proofs::Choices::row_here))]
-    fn top_fits(self, m: Progress, lefts: u64) -> bool
-        requires { AsksStep self.p self.q m × (0 < m.c) }
-        ensures { let w = self.entry in result ≡ top_meets w.work.now w.rules.now.words w.grid w.p m lefts }
+    fn top_fits(self, lefts: u64) -> bool
+        ensures { let s = self.entry in let w = s.walk in let m = s.m in
+            result ≡ top_meets w.work.now w.rules.now.words w.grid w.p m lefts }
     {
-        let i = m.i;
-        let c = m.c;
+        let Progress { c, i, .. } = self.m;
         if i == 0 || c < i {
             return false;
         }
         let row = c - i;
-        row < self.grid.rows && self.rows_meet(m, row, row, lefts)
+        row < self.walk.grid.rows && self.rows_meet(row, row, lefts)
     }
 
     // Whether it can hold a bottom pin alone.
-    fn bottom_fits(self, m: Progress) -> bool
-        requires { AsksStep self.p self.q m × (0 < m.c) }
-        ensures { let w = self.entry in result ≡ bottom_fits w.work.now w.rules.now.words w.grid w.p w.q m }
+    fn bottom_fits(self) -> bool
+        ensures { let s = self.entry in let w = s.walk in let m = s.m in
+            result ≡ bottom_fits w.work.now w.rules.now.words w.grid w.p w.q m }
     {
-        let j = m.j;
-        let c = m.c;
+        let w = self.walk;
+        let Progress { c, j, bottom, .. } = self.m;
         if j == 0 || c < j {
             return false;
         }
         let number = c - j;
-        let next = follower(self.rules, Side::Bottom, j, self.q, m.bottom);
-        next.near(number) && self.empty_fits(m, single(number))
+        let next = follower(w.rules, Side::Bottom, j, w.q, bottom);
+        next.near(number) && self.empty_fits(single(number))
     }
 
     // The smallest letter after which the rest can still be placed.
     #[tactic(auto, using(crate::proofs::Choices::chose_empty, crate::proofs::Choices::chose_top, crate::proofs::Choices::chose_bottom, crate::proofs::Choices::chose_both))]
-    fn choose(self, m: Progress) -> Letter
-        requires { AsksStep self.p self.q m × (0 < m.c) }
-        ensures { let w = self.entry in letter_number result ≡ choice_in w.work.now w.rules.now.words w.grid w.p w.q m }
+    fn choose(self) -> Letter
+        ensures { let s = self.entry in let w = s.walk in let m = s.m in
+            letter_number result ≡ choice_in w.work.now w.rules.now.words w.grid w.p w.q m }
     {
-        let lefts = self.left_numbers(m);
-        if self.empty_fits(m, lefts) {
+        let lefts = self.left_numbers();
+        if self.empty_fits(lefts) {
             return Letter::Empty;
         }
-        if self.top_fits(m, lefts) {
+        if self.top_fits(lefts) {
             return Letter::Top;
         }
-        if self.bottom_fits(m) {
+        if self.bottom_fits() {
             return Letter::Bottom;
         }
         Letter::Both
     }
+}
 
+impl Walk<'_> {
     // Writes the columns of the walk over the table.
     #[tactic(auto, using(crate::proofs::Choices::walk_none))]
     pub fn walk(self, l: usize, columns: &mut [u8])
@@ -153,7 +166,8 @@ impl<'a> Walk<'a> {
         };
         // no `for`: the walk itself counts the columns that are left, and a range would count them once more
         while 0 < m.c {
-            let letter = self.choose(m);
+            let step = Step { walk: self, m };
+            let letter = step.choose();
             put(columns, self.p, letter, m);
             m = behind(letter, m);
         }
