@@ -25,7 +25,8 @@ pub struct Plan {
     pub l: usize,
 }
 
-// What all passes over one sheet go by.
+// What all passes over one sheet go by. The cells are no field, and each method asks anew where the table lies in them: they change from
+// pass to pass, and a struct that holds them to be written cannot be copied.
 #[derive(Clone, Copy)]
 pub struct Pass<'a> {
     pub rules: &'a RuleTable,
