@@ -42,6 +42,15 @@ pub struct Filling<'a> {
     pub bound: u8,
 }
 
+// A row that is to be filled, from the cells that are.
+#[derive(Clone, Copy)]
+pub struct Row<'a> {
+    pub filling: Filling<'a>,
+    pub work: &'a [u16],
+    pub place: Place,
+    ghost lies: { AsksEntry work.now filling.grid place },
+}
+
 // No pin is placed.
 #[tactic(auto, using(bits::proofs::Laws::bit_one, bits::proofs::Laws::bit_zero))]
 fn start(i: usize, j: usize, x: usize) -> u64
@@ -50,49 +59,49 @@ fn start(i: usize, j: usize, x: usize) -> u64
     if i == 0 && j == 0 && x == 0 { 1 } else { 0 }
 }
 
-impl Filling<'_> {
+impl Row<'_> {
     // The last column holds a top pin alone.
     #[tactic(auto, using(bits::proofs::Laws::bit_zero))]
-    fn top(self, work: &[u16], place: Place) -> u64
-        requires { AsksEntry work.now self.grid place }
-        ensures { let f = self.entry in
+    fn top(self) -> u64
+        ensures { let r = self.entry in let f = r.filling in let p = r.place in
             (y : ℕ) → y < 64
-            → bit_of result y ≡ top_part f.rules.now.words f.loads.now.bytes f.bound place.i place.j
-            (held work.now (place.at - f.grid.stride)) place.x y }
+            → bit_of result y ≡ top_part f.rules.now.words f.loads.now.bytes f.bound p.i p.j
+            (held r.work.now (p.at - f.grid.stride)) p.x y }
     {
-        let Place { i, j, x, at } = place;
+        let Place { i, j, x, at } = self.place;
+        let f = self.filling;
         if i == 0 || x + i <= j {
             return 0;
         }
-        if self.bound < self.loads.at(i, j).top || !bit(self.rules.allowed(Side::Top, i), x) {
+        if f.bound < f.loads.at(i, j).top || !bit(f.rules.allowed(Side::Top, i), x) {
             return 0;
         }
         let found = rows(
-            work,
-            at - self.grid.stride,
+            self.work,
+            at - f.grid.stride,
             x,
-            self.rules.range(Side::Top, i),
+            f.rules.range(Side::Top, i),
         );
         both(found, below(x + i - j))
     }
 
     // A bottom pin alone.
     #[tactic(auto, using(bits::proofs::Laws::bit_zero), unfolding(steps::specs::Stepped::stepped))]
-    fn bottom(self, work: &[u16], place: Place) -> u64
-        requires { AsksEntry work.now self.grid place }
-        ensures { let f = self.entry in
+    fn bottom(self) -> u64
+        ensures { let r = self.entry in let f = r.filling in let p = r.place in
             (y : ℕ) → y < 64
-            → bit_of result y ≡ bottom_part f.rules.now.words f.loads.now.bytes f.bound place.i place.j
-            (held work.now (place.at - f.grid.size)) place.x y }
+            → bit_of result y ≡ bottom_part f.rules.now.words f.loads.now.bytes f.bound p.i p.j
+            (held r.work.now (p.at - f.grid.size)) p.x y }
     {
-        let Place { i, j, x, at } = place;
-        if j == 0 || self.bound < self.loads.at(i, j).bottom {
+        let Place { i, j, x, at } = self.place;
+        let f = self.filling;
+        if j == 0 || f.bound < f.loads.at(i, j).bottom {
             return 0;
         }
-        let row = read_word(work, at - self.grid.size + 4 * x);
+        let row = read_word(self.work, at - f.grid.size + 4 * x);
         let found = both(
-            steps(row, self.rules.range(Side::Bottom, j)),
-            self.rules.allowed(Side::Bottom, j),
+            steps(row, f.rules.range(Side::Bottom, j)),
+            f.rules.allowed(Side::Bottom, j),
         );
         if x + i < j {
             return found;
@@ -102,49 +111,49 @@ impl Filling<'_> {
 
     // Both.
     #[tactic(auto, using(bits::proofs::Laws::bit_zero))]
-    fn pair(self, work: &[u16], place: Place) -> u64
-        requires { AsksEntry work.now self.grid place }
-        ensures { let f = self.entry in
+    fn pair(self) -> u64
+        ensures { let r = self.entry in let f = r.filling in let p = r.place in
             (y : ℕ) → y < 64
-            → bit_of result y ≡ both_part f.rules.now.words f.loads.now.bytes f.bound place.i place.j
-            (held work.now (place.at - (f.grid.stride + f.grid.size))) place.x y }
+            → bit_of result y ≡ both_part f.rules.now.words f.loads.now.bytes f.bound p.i p.j
+            (held r.work.now (p.at - (f.grid.stride + f.grid.size))) p.x y }
     {
-        let Place { i, j, x, at } = place;
+        let Place { i, j, x, at } = self.place;
+        let f = self.filling;
         if i == 0 || j == 0 || x + i < j || 64 <= x + i - j {
             return 0;
         }
-        if self.bound < self.loads.at(i, j).both || !bit(self.rules.allowed(Side::Top, i), x) {
+        if f.bound < f.loads.at(i, j).both || !bit(f.rules.allowed(Side::Top, i), x) {
             return 0;
         }
         let found = rows(
-            work,
-            at - (self.grid.stride + self.grid.size),
+            self.work,
+            at - (f.grid.stride + f.grid.size),
             x,
-            self.rules.range(Side::Top, i),
+            f.rules.range(Side::Top, i),
         );
         both(
             single(x + i - j),
             both(
-                steps(found, self.rules.range(Side::Bottom, j)),
-                self.rules.allowed(Side::Bottom, j),
+                steps(found, f.rules.range(Side::Bottom, j)),
+                f.rules.allowed(Side::Bottom, j),
             ),
         )
     }
 
-    // The word of a place.
+    // The row's word.
     #[tactic(auto, unfolding(crate::specs::Entry::entry))]
-    pub fn word(self, work: &[u16], place: Place) -> u64
-        requires { AsksEntry work.now self.grid place }
-        ensures { let f = self.entry in
+    pub fn word(self) -> u64
+        ensures { let r = self.entry in let f = r.filling in let p = r.place in
             (y : ℕ) → y < 64
-            → bit_of result y ≡ entry f.rules.now.words f.loads.now.bytes f.bound place.i place.j
-            (held work.now (place.at - f.grid.stride)) (held work.now (place.at - f.grid.size))
-            (held work.now (place.at - (f.grid.stride + f.grid.size))) place.x y }
+            → bit_of result y ≡ entry f.rules.now.words f.loads.now.bytes f.bound p.i p.j
+            (held r.work.now (p.at - f.grid.stride)) (held r.work.now (p.at - f.grid.size))
+            (held r.work.now (p.at - (f.grid.stride + f.grid.size))) p.x y }
     {
-        let nothing = start(place.i, place.j, place.x);
-        let one = self.top(work, place);
-        let other = self.bottom(work, place);
-        let two = self.pair(work, place);
+        let Place { i, j, x, .. } = self.place;
+        let nothing = start(i, j, x);
+        let one = self.top();
+        let other = self.bottom();
+        let two = self.pair();
         either(nothing, either(one, either(other, two)))
     }
 }

@@ -10,7 +10,7 @@ use arrays::{LoadTable, RuleTable};
 use bits::below;
 use bound::lower_bound;
 use entry::{Filling, Grid};
-use table::{fill, meets};
+use table::{Follower, Plane, fill};
 use walk::Walk;
 
 // No density is above this.
@@ -25,7 +25,8 @@ pub struct Plan {
     pub l: usize,
 }
 
-// What all passes over one sheet go by.
+// What all passes over one sheet go by. The cells are no field, and each method asks anew where the table lies in them: they change from
+// pass to pass, and a struct that holds them to be written cannot be copied.
 #[derive(Clone, Copy)]
 pub struct Pass<'a> {
     pub rules: &'a RuleTable,
@@ -65,17 +66,13 @@ impl Pass<'_> {
     {
         let Plan { grid, p, q, l } = self.plan;
         self.fill_under(work, bound);
-        meets(
+        let last = Plane {
             work,
             grid,
-            p,
-            q,
-            0,
-            grid.rows - 1,
-            63,
-            u64::MAX,
-            below(l + 1 - q),
-        )
+            i: p,
+            j: q,
+        };
+        last.meets(0, grid.rows - 1, Follower::NONE, below(l + 1 - q))
     }
 
     // The least bound under which all pins can be placed, where `MOST` is such a bound and `failed` is none. It is most often close

@@ -7,4 +7,4 @@ mod plane;
 mod query;
 
 pub use plane::fill;
-pub use query::{back, meets};
+pub use query::{Follower, Plane};

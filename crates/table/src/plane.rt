@@ -3,7 +3,7 @@ ghost use Rattle.std.specs.Prelude.{◌+◌, ◌*◌, ◌≤◌, ◌<◌, ◌≡
 ghost use Rattle.table.specs.Planes.{Measures, Earlier, Filled, AsksTable, base_of};
 
 use cells::write_word;
-use entry::{Filling, Place};
+use entry::{Filling, Place, Row};
 
 // Fills the plane of (i, j), whose cells start at `at`.
 fn fill_plane(work: &mut [u16], filling: Filling, i: usize, j: usize, at: usize)
@@ -14,7 +14,12 @@ fn fill_plane(work: &mut [u16], filling: Filling, i: usize, j: usize, at: usize)
         Filled f.rules.now.words f.loads.now.bytes f.bound f.grid i (j + 1) (at + f.grid.size) work.old work.new }
 {
     for x in 0..filling.grid.rows {
-        let w = filling.word(work, Place { i, j, x, at });
+        let row = Row {
+            filling,
+            work,
+            place: Place { i, j, x, at },
+        };
+        let w = row.word();
         write_word(work, at + 4 * x, w);
     }
 }

@@ -7,43 +7,68 @@ use bits::{bit, both, either, single};
 use cells::read_word;
 use entry::Grid;
 
-// Whether some row from `low` to `high` of plane (i, j), whose step to `next` is in `by`, meets the mask.
-pub fn meets(
-    work: &[u16],
-    grid: Grid,
-    i: usize,
-    j: usize,
-    low: usize,
-    high: usize,
-    next: usize,
-    by: u64,
-    mask: u64,
-) -> bool
-    requires { AsksTable work.now grid i × (j < grid.across) × (low ≤ high) × (high < grid.rows) × (high ≤ next) }
-    ensures { result ≡ meeting work.now grid i j low high next by mask }
-{
-    let base = i * grid.stride + j * grid.size;
-    // not `low..=high`, of which the last turn would have to be shown once more
-    for x in low..high + 1 {
-        if bit(by, next - x) {
-            if both(read_word(work, base + 4 * x), mask) != 0 {
-                return true;
-            }
-        }
-    }
-    false
+// The pin behind the one that is asked for: where it stands, counted as that one is, and which steps to it are in range.
+#[derive(Clone, Copy)]
+pub struct Follower {
+    pub at: usize,
+    pub by: u64,
 }
 
-// The numbers up to `high` whose step to `next` is in `by`.
-pub fn back(high: usize, next: usize, by: u64) -> u64
-    requires { (high < 64) × (high ≤ next) }
-    ensures { (y : ℕ) → y < 64 → bit_of result y ≡ (leb y high && bit_of by (next - y)) }
-{
-    let mut found: u64 = 0;
-    for y in 0..=high {
-        if bit(by, next - y) {
-            found = either(single(y), found);
-        }
+impl Follower {
+    // No pin is behind: any step will do.
+    pub const NONE: Follower = Follower {
+        at: 63,
+        by: u64::MAX,
+    };
+
+    // Whether the step from a number is in range.
+    pub fn near(self, x: usize) -> bool
+        requires { x ≤ self.at }
+        ensures { result ≡ bit_of self.by (self.at - x) }
+    {
+        bit(self.by, self.at - x)
     }
-    found
+
+    // The numbers up to `high` from which the step is in range.
+    pub fn back(self, high: usize) -> u64
+        requires { (high < 64) × (high ≤ self.at) }
+        ensures { (y : ℕ) → y < 64 → bit_of result y ≡ (leb y high && bit_of self.by (self.at - y)) }
+    {
+        let mut found: u64 = 0;
+        for y in 0..=high {
+            if self.near(y) {
+                found = either(single(y), found);
+            }
+        }
+        found
+    }
+}
+
+// Plane (i, j) of a filled table.
+#[derive(Clone, Copy)]
+pub struct Plane<'a> {
+    pub work: &'a [u16],
+    pub grid: Grid,
+    pub i: usize,
+    pub j: usize,
+}
+
+impl Plane<'_> {
+    // Whether some row from `low` to `high`, whose step to the pin behind is in range, meets the mask.
+    pub fn meets(self, low: usize, high: usize, next: Follower, mask: u64) -> bool
+        requires { AsksTable self.work.now self.grid self.i × (self.j < self.grid.across)
+            × (low ≤ high) × (high < self.grid.rows) × (high ≤ next.at) }
+        ensures { let a = self.entry in result ≡ meeting a.work.now a.grid a.i a.j low high next.at next.by mask }
+    {
+        let base = self.i * self.grid.stride + self.j * self.grid.size;
+        // not `low..=high`, of which the last turn would have to be shown once more
+        for x in low..high + 1 {
+            if next.near(x) {
+                if both(read_word(self.work, base + 4 * x), mask) != 0 {
+                    return true;
+                }
+            }
+        }
+        false
+    }
 }

@@ -1,4 +1,4 @@
--- `entry::Filling::pair` meets its contract: the bottom pin steps from what the top pin's steps reach.
+-- `entry::Row::pair` meets its contract: the bottom pin steps from what the top pin's steps reach.
 -- Assumes nothing.
 use Rattle.std.proofs.Common.{ℕ, suc, ◌-◌, ◌≡◌, Bool, ◌&&◌, ap, arith, tests}
 use Rattle.channel.specs.Below.{any_below}
@@ -6,7 +6,7 @@ use Rattle.channel.proofs.Below.{any_below_cong}
 use Rattle.bits.specs.Bits.{bit_of}
 use Rattle.bits.proofs.Laws.{bit_zero}
 use Rattle.steps.specs.Stepped.{stepped}
-use Rattle.entry.proofs.Filling.pair.Goals as goal
+use Rattle.entry.proofs.Row.pair.Goals as goal
 
 -- the steps of `by` from a set that f names
 stepped-from :
@@ -20,5 +20,5 @@ returns c =
     rw (← c.range.ensures, ← c.range-2.ensures, ← stepped-from c.rows-found.result c.range-2.result _ y c.rows-found.ensures)
     (grind (arith, tests))
 
-pub returns-then-self-at : goal.returns-then-self-at
-returns-then-self-at c = λ y h. grind (arith, tests, bit_zero)
+pub returns-then-f-at : goal.returns-then-f-at
+returns-then-f-at c = λ y h. grind (arith, tests, bit_zero)
