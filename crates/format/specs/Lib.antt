@@ -1,2 +1,3 @@
 pub mod Format
 pub mod Parts
+pub mod Left

@@ -14,6 +14,45 @@ use trailer::Part;
 
 pub const RECORD: usize = 12;
 
+// The terminals of a section that are still to come.
+#[derive(Clone, Copy)]
+pub struct Terminals<'a> {
+    part: &'a [u8],
+    passed: usize,
+}
+
+impl<'a> Terminals<'a> {
+    ghost use Rattle.format.specs.Left.{terminals_left};
+
+    // The terminals of a section.
+    pub fn new(part: &'a [u8]) -> Self
+        ensures { terminals_left result ≡ terminals_in part.now }
+    {
+        Terminals { part, passed: 0 }
+    }
+}
+
+impl<'a> Iterator for Terminals<'a> {
+    ghost use Rattle.std.specs.Iterator.{YieldsFirstBy, item_count};
+    ghost use Rattle.terminal.specs.Terminal.{terminal_of};
+    ghost use Rattle.format.specs.Left.{terminals_left};
+
+    type Item = Record;
+
+    ghost next_gives = { YieldsFirstBy terminal_of terminals_left };
+
+    ghost remaining = { item_count terminals_left };
+
+    fn next(&mut self) -> Option<Record> {
+        if count_in(self.part) <= self.passed {
+            return None;
+        }
+        let record = terminal_at(self.part, self.passed);
+        self.passed += 1;
+        Some(record)
+    }
+}
+
 // The records of a part, as far as they lie in the bytes, which may be any.
 pub fn part_in(s: &[u8], part: Part) -> &[u8]
     ensures { OwnPart s.entry result (offset_of s.now part) (bytes_of s.now part) }

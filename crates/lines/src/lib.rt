@@ -60,6 +60,7 @@ pub fn put_side(out: &mut Writer, side: Side, part: &[u8], columns: &[u8])
     ensures wrote { Writes out.old out.new (lines (visits side 1 (terminals_in part.now)) columns.now) }
     ensures upper_bound { out.new.end ≤ out.old.end + 28 * length columns.now }
 {
+    // by place, which stands in the line
     for (k, column) in columns.iter().enumerate() {
         let entry = sheet::record_in(part, k + 1);
         put_entry(out, side, k + 1, entry, *column);

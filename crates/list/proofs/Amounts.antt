@@ -1,10 +1,10 @@
 -- Laws of amounts: which are 0, and which is the first that is not.
 -- Assumes nothing.
-use Rattle.std.proofs.Common.{◌≡◌, ℕ, zero, suc, Bool, true, false, ◌&&◌, ℤ, pos, negsuc, sym, refl, ap, ◌∙◌, true≢false}
+use Rattle.std.proofs.Common.{◌≡◌, ℕ, zero, suc, Bool, true, false, ◌&&◌, ℤ, pos, negsuc, Some, None, is_some, sym, refl, ap, ◌∙◌, true≢false}
 use Rattle.channel.specs.Assignment.{in_range}
 use Rattle.channel.specs.Distance.{amount}
 use Rattle.channel.proofs.Distances.{amount_says}
-use Rattle.list.specs.Answer.{is_zero, first_of}
+use Rattle.list.specs.Answer.{is_zero, first_of, out_of_range}
 
 pub zero_true : (z : ℤ) → is_zero z ≡ true → z ≡ pos 0
 zero_true (pos zero) e = refl
@@ -15,6 +15,17 @@ pub zero_false : (z : ℤ) → (z ≡ pos 0 → ⊥) → is_zero z ≡ false
 zero_false (pos zero) h = absurd (h refl)
 zero_false (pos (suc n)) h = refl
 zero_false (negsuc n) h = refl
+
+-- an amount that is there is not 0, and one that is not there is
+pub some_amount : (z found : ℤ) → out_of_range z ≡ Some found → (is_zero z ≡ false) × (z ≡ found)
+some_amount (pos zero) found e = absurd (true≢false (sym (ap is_some e)))
+some_amount (pos (suc n)) found e = (refl, cc)
+some_amount (negsuc n) found e = (refl, cc)
+
+pub none_amount : (z : ℤ) → out_of_range z ≡ None → is_zero z ≡ true
+none_amount (pos zero) e = refl
+none_amount (pos (suc n)) e = absurd (true≢false (ap is_some e))
+none_amount (negsuc n) e = absurd (true≢false (ap is_some e))
 
 -- the first of two is 0 where both are
 pub zero_first : (z next : ℤ) → is_zero (first_of z next) ≡ (is_zero z && is_zero next)

@@ -1,6 +1,6 @@
 -- The check of a column list, from what the sheet layer and the two tests answer.
 -- Assumes nothing.
-use Rattle.std.proofs.Common.{◌≡◌, ℕ, ◌+◌, ◌-◌, ◌≤◌, true, false, ◌&&◌, List, length, take, drop, ℤ, pos, Ok, Err, Result, sym, ap, ◌∙◌, arith, length-drop, take_all, eq-eqb, ne_eqb}
+use Rattle.std.proofs.Common.{◌≡◌, ℕ, ◌+◌, ◌-◌, ◌≤◌, true, false, ◌&&◌, List, length, take, drop, ℤ, Some, None, Ok, Err, Result, sym, ap, ◌∙◌, arith, length-drop, take_all, eq-eqb, ne_eqb}
 use Rattle.channel.specs.Sheet.{Terminal, Sheet, sheet_with}
 use Rattle.channel.specs.Assignment.{top_columns, bottom_columns}
 use Rattle.refusals.specs.declared.Refusal.{Refusal}
@@ -14,10 +14,10 @@ use Rattle.std.specs.Borrow.{Bor}
 use Rattle.format.specs.Parts.{terminals_in}
 use Rattle.sheet.specs.Parts.{opened_of}
 use Rattle.sheet.proofs.Laws.{Opens, opens, held_sheet, held_shape}
-use Rattle.list.specs.Answer.{side_allowed, all_allowed, first_of, side_amount, first_amount}
+use Rattle.list.specs.Answer.{side_allowed, all_allowed, out_of_range, first_of, side_amount, first_amount}
 use Rattle.list.specs.Answer.{is_zero, unless, columns_listed, sheet_listed, listed_of}
 use Rattle.refusals.specs.declared.ListRefusal.{ListRefusal}
-use Rattle.list.proofs.Amounts.{zero_false}
+use Rattle.list.proofs.Amounts.{some_amount, none_amount}
 
 -- the columns of a list on each side, as parts of the list
 abbrev top_part : List ℕ → ℕ → List ℕ
@@ -57,15 +57,20 @@ module _ (l : ℕ) (ts us : List Terminal) (cs : List ℕ) (n : Layout) (p : ℕ
     pub bottom-refused : side_allowed us (bottom_part cs p) ≡ false → Err Allowed ≡ columns_listed (sheet_with l ts us) cs n
     bottom-refused e = rw (top, e) at sides
 
-    module _ (bottom : side_allowed us (bottom_part cs p) ≡ true) (found : ℤ) (answer : found ≡ both_amount ts us cs p) where
-      by-amount : unless (is_zero found) (Distance found) (Ok n) ≡ columns_listed (sheet_with l ts us) cs n
-      by-amount = rw answer (rw (top, bottom) at sides)
+    module _ (bottom : side_allowed us (bottom_part cs p) ≡ true) where
+      by-amount :
+          unless (is_zero (both_amount ts us cs p)) (Distance (both_amount ts us cs p)) (Ok n) ≡ columns_listed (sheet_with l ts us) cs n
+      by-amount = rw (top, bottom) at sides
 
-      pub distance-refused : (found ≡ pos 0 → ⊥) → Err (Distance found) ≡ columns_listed (sheet_with l ts us) cs n
-      distance-refused h = rw (zero_false found h) at by-amount
+      pub distance-refused :
+          (found : ℤ) → out_of_range (both_amount ts us cs p) ≡ Some found
+          → Err (Distance found) ≡ columns_listed (sheet_with l ts us) cs n
+      distance-refused found e =
+          let (apart, same) = some_amount (both_amount ts us cs p) found e in
+          rw (apart, same) at by-amount
 
-      pub listed : found ≡ pos 0 → Ok n ≡ columns_listed (sheet_with l ts us) cs n
-      listed e = rw e at by-amount
+      pub listed : out_of_range (both_amount ts us cs p) ≡ None → Ok n ≡ columns_listed (sheet_with l ts us) cs n
+      listed e = rw (none_amount (both_amount ts us cs p) e) at by-amount
 
 -- what is said of a sheet that does not open
 pub sheet-refused : (b cs : List ℕ) (why : Refusal) → opened_of b ≡ Err why → Err (Unsound why) ≡ listed_of b cs

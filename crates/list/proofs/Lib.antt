@@ -1,4 +1,5 @@
 pub mod Amounts
+pub mod Sides
 pub mod Columns
 pub mod Returned
 pub mod Laws

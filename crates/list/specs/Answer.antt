@@ -1,7 +1,7 @@
 -- Whether a column list is an assignment of a sheet, and else the first refusal that applies (document 01, "Column, crossing, density" and
 -- "The refusal list"; document 02, T-01).
 -- Assumes nothing.
-use Rattle.std.specs.Prelude.{ℕ, zero, suc, ◌+◌, List, [], ◌∷◌, Bool, true, false, cond, ◌&&◌, length, eqb, ℤ, pos, negsuc, Result, Ok, Err}
+use Rattle.std.specs.Prelude.{ℕ, zero, suc, ◌+◌, List, [], ◌∷◌, Bool, true, false, cond, ◌&&◌, length, eqb, ℤ, pos, negsuc, Option, Some, None, Result, Ok, Err}
 use Rattle.channel.specs.Sheet.{Terminal, Sheet}
 use Rattle.channel.specs.Assignment.{allows, top_columns, bottom_columns}
 use Rattle.channel.specs.Distance.{amount}
@@ -32,6 +32,10 @@ is_zero (negsuc n) = false
 abbrev pub first_of : ℤ → ℤ → ℤ
 first_of z next = cond (is_zero z) next z
 
+-- an amount that is not 0; of 0 there is none
+abbrev pub out_of_range : ℤ → Option ℤ
+out_of_range z = cond (is_zero z) None (Some z)
+
 -- 14 of the terminals after the first, with the column of the terminal before them: the amount of the first distance out of range, or 0
 abbrev pub later_amount : List Terminal → ℕ → List ℕ → ℤ
 later_amount [] before cs = pos 0
@@ -59,6 +63,11 @@ columns_listed s cs n =
     unless (all_allowed s cs) Allowed
     (unless (is_zero (first_amount s cs)) (Distance (first_amount s cs))
     (Ok n))
+
+-- what is not refused has its sheet's layout
+abbrev pub with_layout : Layout → Result Unit ListRefusal → Result Layout ListRefusal
+with_layout n (Ok tt) = Ok n
+with_layout n (Err why) = Err why
 
 -- "for a measurement 12, then 13 over all terminals, then 14 over all pairs"
 unfoldable pub sheet_listed : Sheet → List ℕ → Layout → Result Layout ListRefusal

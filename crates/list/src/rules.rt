@@ -1,53 +1,56 @@
 // What 13 and 14 ask of a list as long as the terminals.
 ghost use Rattle.std.specs.Prelude.{◌≡◌, length};
 ghost use Rattle.format.specs.Parts.{terminals_in};
-ghost use Rattle.list.specs.Answer.{side_allowed, first_of, side_amount};
+ghost use Rattle.list.specs.Answer.{side_allowed, first_of, side_amount, out_of_range};
 
-use format::terminal_at;
+use format::Terminals;
 
-// 13 of one side: whether each column is in its terminal's set.
-pub fn all_allowed(part: &[u8], columns: &[u8]) -> bool
-    requires { length columns.now ≡ length (terminals_in part.now) }
-    ensures { result ≡ side_allowed (terminals_in part.now) columns.now }
-{
-    for (i, column) in columns.iter().enumerate() {
-        let r = terminal_at(part, i);
-        if !terminal::allows(r.allowed, *column) {
-            return false;
-        }
-    }
-    true
+// A side of a list: the section and the columns of its terminals.
+#[derive(Clone, Copy)]
+pub struct ListedSide<'a> {
+    pub part: &'a [u8],
+    pub columns: &'a [u8],
+    ghost paired: { length columns.now ≡ length (terminals_in part.now) },
 }
 
-// 14 of one side: the amount of its first distance that is out of range; 0 where none is. The scan stops at the first bad pair.
-fn side_amount(part: &[u8], columns: &[u8]) -> i16
-    requires { length columns.now ≡ length (terminals_in part.now) }
-    ensures { result ≡ side_amount (terminals_in part.now) columns.now }
-{
-    for i in 1..columns.len() {
-        let r = terminal_at(part, i);
-        let amount = terminal::amount(columns[i - 1], columns[i], r.least, r.greatest);
-        if amount != 0 {
-            return amount;
+impl<'a> ListedSide<'a> {
+    // 13: whether each column is in its terminal's set.
+    pub fn is_allowed(self) -> bool
+        ensures { result ≡ side_allowed (terminals_in self.entry.part.now) self.entry.columns.now }
+    {
+        for (r, column) in Terminals::new(self.part).zip(self.columns) {
+            if !terminal::allows(r.allowed, *column) {
+                return false;
+            }
         }
+        true
     }
-    0
+
+    // 14: the amount of the first distance that is out of range. The scan stops at the first bad pair.
+    fn amount(self) -> Option<i16>
+        ensures { result ≡ out_of_range (side_amount (terminals_in self.entry.part.now) self.entry.columns.now) }
+    {
+        let mut pins = Terminals::new(self.part).zip(self.columns);
+        // nothing ties the first
+        let mut before = *pins.next()?.1;
+        for (r, column) in pins {
+            let amount = terminal::amount(before, *column, r.least, r.greatest);
+            if amount != 0 {
+                return Some(amount);
+            }
+            before = *column;
+        }
+        None
+    }
 }
 
-// 14: the amount of the first distance that is out of range, top pairs before bottom pairs; 0 where none is.
-pub fn first_amount<'a, 'b>(
-    top: &'a [u8],
-    bottom: &'a [u8],
-    tops: &'b [u8],
-    bottoms: &'b [u8],
-) -> i16
-    requires { (length tops.now ≡ length (terminals_in top.now)) × (length bottoms.now ≡ length (terminals_in bottom.now)) }
-    ensures { result ≡ first_of (side_amount (terminals_in top.now) tops.now)
-        (side_amount (terminals_in bottom.now) bottoms.now) }
+// 14: the amount of the first distance that is out of range, top pairs before bottom pairs.
+pub fn first_amount(top: ListedSide, bottom: ListedSide) -> Option<i16>
+    ensures { result ≡ out_of_range (first_of (side_amount (terminals_in top.entry.part.now) top.entry.columns.now)
+        (side_amount (terminals_in bottom.entry.part.now) bottom.entry.columns.now)) }
 {
-    let found = side_amount(top, tops);
-    if found != 0 {
-        return found;
+    match top.amount() {
+        None => bottom.amount(),
+        found => found,
     }
-    side_amount(bottom, bottoms)
 }

@@ -22,6 +22,7 @@ fn fill_nets(part: &[u8], nets: &mut [u16])
     requires { length nets.old ≡ length (terminals_in part.now) }
     ensures { nets.new ≡ nets_of (terminals_in part.now) }
 {
+    // by place: of what is stored over a `zip` of `iter_mut` no proof knows anything
     for (i, net) in nets.iter_mut().enumerate() {
         *net = terminal_at(part, i).net;
     }

@@ -61,6 +61,7 @@ pub fn read_rules(part: &[u8], rules: &mut RuleTable, side: Side)
     ensures { SideRead (side_number side) (terminals_in part.now) rules.old.words rules.new.words }
 {
     let count = count_in(part);
+    // by place, which is part of what is put
     for i in 0..count {
         let rule = rule_of(part, i + 1);
         rules.put(side, i + 1, rule.range, rule.allowed);

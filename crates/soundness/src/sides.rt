@@ -5,7 +5,7 @@ ghost use Rattle.terminal.specs.Terminal.{terminal_of};
 ghost use Rattle.format.specs.Parts.{terminals_in};
 ghost use Rattle.soundness.specs.Check.{terminal_check, side_check};
 
-use format::{count_in, terminal_at};
+use format::Terminals;
 use refusals::{Checked, Refusal};
 use terminal::{Record, names_above};
 
@@ -13,8 +13,10 @@ use terminal::{Record, names_above};
 pub fn check_side(section: &[u8], columns: usize) -> Checked
     ensures { result ≡ side_check columns true (terminals_in section.now) }
 {
-    for i in 0..count_in(section) {
-        check_record(terminal_at(section, i), i == 0, columns)?;
+    let mut first = true;
+    for record in Terminals::new(section) {
+        check_record(record, first, columns)?;
+        first = false;
     }
     Ok(())
 }

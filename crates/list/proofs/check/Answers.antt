@@ -15,6 +15,14 @@ check_columns-requires c =
 pub returns-in_err-layout : goal.returns-in_err-layout
 returns-in_err-layout c = let e = sheet-refused _ c.args.columns.now _ (sym c.in_err-layout.ensures) in search rules
 
+pub returns-in_err-check_columns : goal.returns-in_err-check_columns
+returns-in_err-check_columns c =
+    let e =
+    columns-checked c.args.s _ _ (sym c.in_ok-layout.ensures) c.if-columns-layout.false _ c.sections.ensures _
+    (c.in_err-check_columns.ensures _) in
+    search rules
+
 pub returns : goal.returns
 returns c =
-    columns-checked c.args.s _ _ (sym c.in_ok-layout.ensures) c.if-columns-layout.false _ c.sections.ensures _ c.check_columns.ensures
+    columns-checked c.args.s _ _ (sym c.in_ok-layout.ensures) c.if-columns-layout.false _ c.sections.ensures _
+    (c.in_ok-check_columns.ensures _)

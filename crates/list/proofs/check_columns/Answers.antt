@@ -1,37 +1,35 @@
 -- `list::check_columns` meets its contract: each answer is that of the first of the tests that refuses, else the assignment.
 -- Assumes nothing.
-use Rattle.std.proofs.Common.{ℤ, Err, sym, ap, ◌∙◌, to_z-of_z, w16, of_z}
-use Rattle.refusals.specs.declared.ListRefusal.TheVariants.{Distance}
-use Rattle.terminal.proofs.Laws.{zero_bits}
+use Rattle.std.proofs.Common.{sym, ◌∙◌, rules}
 use Rattle.list.proofs.Columns.{top-refused, bottom-refused, distance-refused, listed}
 use Rattle.list.proofs.check_columns.Goals as goal
+use Rattle.list.proofs.check_columns.Goals.{then-not-is_allowed-via-then-not-is_allowed, then-not-is_allowed-via-else-not-is_allowed+then-not-is_allowed-2}
 
-pub returns-then-not-all_allowed : goal.returns-then-not-all_allowed
-returns-then-not-all_allowed c =
-    top-refused _ _ _ _ _ _ c.requires.0 (sym c.all_allowed.ensures ∙ c.if-not-all_allowed.true)
+pub returns-then-not-is_allowed : goal.returns-then-not-is_allowed
+returns-then-not-is_allowed c =
+    λ n.
+    elim c.then-not-is_allowed.branch [
+      | then-not-is_allowed-via-then-not-is_allowed w ↦
+          top-refused _ _ _ _ n _ c.requires.0 (sym c.is_allowed.ensures ∙ w.if-not-is_allowed.true)
+      | then-not-is_allowed-via-else-not-is_allowed+then-not-is_allowed-2 w ↦
+          bottom-refused _ _ _ _ n _ c.requires.0 (sym c.is_allowed.ensures ∙ w.if-not-is_allowed.false)
+          (sym w.is_allowed-else-not-is_allowed.ensures ∙ w.if-not-is_allowed-2.true)
+    ]
 
-pub returns-then-not-all_allowed-2 : goal.returns-then-not-all_allowed-2
-returns-then-not-all_allowed-2 c =
-    bottom-refused _ _ _ _ _ _ c.requires.0
-    (sym c.all_allowed.ensures ∙ c.if-not-all_allowed.false)
-    (sym c.all_allowed-2.ensures ∙ c.if-not-all_allowed-2.true)
+pub returns-in-Some : goal.returns-in-Some
+returns-in-Some c =
+    λ n.
+    let e =
+    distance-refused c.args.sections.shape.columns _ _ _ n _ c.requires.0
+    (sym c.is_allowed.ensures ∙ c.if-not-is_allowed.false)
+    (sym c.is_allowed-else-not-is_allowed.ensures ∙ c.if-not-is_allowed-2.false)
+    c.in-Some.amount (sym c.in-Some.ensures) in
+    search rules
 
-pub returns-then-amount-ne0 : goal.returns-then-amount-ne0
-returns-then-amount-ne0 c =
-    -- the amount is read back from the bits that hold it
-    ap (λ (z : ℤ). Err (Distance z)) (to_z-of_z {w = w16} (record { sfits = c.first_amount-amount.type_inv }))
-    ∙ distance-refused _ _ _ _ _ _ c.requires.0
-    (sym c.all_allowed.ensures ∙ c.if-not-all_allowed.false)
-    (sym c.all_allowed-2.ensures ∙ c.if-not-all_allowed-2.false)
-    c.first_amount-amount.result
-    c.first_amount-amount.ensures
-    (λ e. c.if-amount-ne0.true (ap (of_z w16) e))
-
-pub returns : goal.returns
-returns c =
-    listed _ _ _ _ _ _ c.requires.0
-    (sym c.all_allowed.ensures ∙ c.if-not-all_allowed.false)
-    (sym c.all_allowed-2.ensures ∙ c.if-not-all_allowed-2.false)
-    c.first_amount-amount.result
-    c.first_amount-amount.ensures
-    (zero_bits c.first_amount-amount.type_inv c.if-amount-ne0.false)
+pub returns-in-None : goal.returns-in-None
+returns-in-None c =
+    λ n.
+    listed _ _ _ _ n _ c.requires.0
+    (sym c.is_allowed.ensures ∙ c.if-not-is_allowed.false)
+    (sym c.is_allowed-else-not-is_allowed.ensures ∙ c.if-not-is_allowed-2.false)
+    (sym c.in-None.ensures)
