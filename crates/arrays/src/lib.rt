@@ -2,7 +2,7 @@
 // they stand in their array is said here alone.
 #![tactic(auto)]
 
-ghost use Rattle.std.specs.Prelude.{◌≤◌, ◌≡◌, length};
+ghost use Rattle.std.specs.Prelude.{◌≤◌, ◌≡◌, length, replicate};
 ghost use Rattle.arrays.specs.Rules.{pins, rule_words, side_number, range_at, allowed_at, put_rule};
 ghost use Rattle.arrays.specs.Loads.{load_bytes, load_at, put_loads};
 
@@ -17,17 +17,27 @@ const SIDE: usize = 128;
 const CUTS: usize = 65;
 
 // The words of both sides' rules, and the bytes of the loads of all cuts.
-pub const RULES: usize = 256;
+const RULES: usize = 256;
 
-pub const LOADS: usize = 12675;
+const LOADS: usize = 12675;
 
-// The rules of both sides' terminals, flat: one equation says what `put` changes, where an array of arrays would carry two lengths.
+// The rules of both sides' terminals, flat: one equation says what `put` changes, where an array of arrays would carry two lengths. Places
+// are counted from 1, as in the definitions, and their bounds are clauses: a type of their own would be asked of every caller. The words
+// are public since the contracts of other crates name them.
 #[derive(Drop)]
 pub struct RuleTable {
     pub words: [u64; RULES],
 }
 
 impl RuleTable {
+    // A table with each word 0.
+    #[inline]
+    pub fn new() -> Self
+        ensures { result.words ≡ replicate rule_words 0 }
+    {
+        RuleTable { words: [0; RULES] }
+    }
+
     // The distances in range of the i-th terminal, from 1, of a side.
     pub fn range(&self, side: Side, i: usize) -> u64
         requires { (1 ≤ i) × (i ≤ pins) }
@@ -71,6 +81,14 @@ pub struct LoadTable {
 }
 
 impl LoadTable {
+    // A table with each byte 0.
+    #[inline]
+    pub fn new() -> Self
+        ensures { result.bytes ≡ replicate load_bytes 0 }
+    {
+        LoadTable { bytes: [0; LOADS] }
+    }
+
     // The loads of a column of the cut (i, j).
     pub fn at(&self, i: usize, j: usize) -> Loads
         requires { (i ≤ pins) × (j ≤ pins) }

@@ -10,7 +10,7 @@ ghost use Rattle.cazdrob.specs.Host.{check_number, HostMeasures, HostSearches, H
 
 use left_edge::Span;
 use refusals::{amount_of, number_of};
-use tracked::{Counts, Tracked, counts_in};
+use tracked::{Tracked, counts_in};
 
 // The number of the sheet's refusal; 0 for a sound sheet.
 pub fn cazdrob_check(s: &[u8]) -> u32
@@ -78,8 +78,7 @@ pub fn cazdrob_tracks(
 fn put_answer(answer: Tracked, nets: &mut usize, tracks: &mut u32, amount: &mut i32) -> u32
     ensures { HostNumbers answer nets.new tracks.new amount.new result }
 {
-    let none = Counts { nets: 0, tracks: 0 };
-    let counts = answer.unwrap_or(none);
+    let counts = answer.unwrap_or_default();
     *nets = counts.nets;
     *tracks = u32::from(counts.tracks);
     *amount = i32::from(amount_of(answer));

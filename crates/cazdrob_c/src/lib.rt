@@ -1,5 +1,6 @@
 // The C functions of the library, under the names that include/cazdrob.h declares: each is the call of `cazdrob` with its name and its
-// contract. The C interface needs these twins: a static library is a crate of its own, which no crate can call.
+// contract. The C interface needs these twins: a static library is a crate of its own, which no crate can call, and a Rattle program calls
+// `cazdrob`.
 #![tactic(auto)]
 
 ghost use Rattle.std.specs.Prelude.{◌≡◌};

@@ -74,13 +74,7 @@ fn drawn_columns(n: u64) -> u8 {
 
 // The sheet of a plan: its terminals, top before bottom.
 pub fn sheet_of(n: u64, plan: Plan) -> Sheet {
-    let none = Record {
-        net: 0,
-        least: 0,
-        greatest: 0,
-        allowed: 0,
-    };
-    let mut records = [none; ROOM];
+    let mut records = [Record::default(); ROOM];
     let mut digits = n / 64;
     for (t, record) in records.iter_mut().enumerate() {
         *record = Pin { n, plan, t }.terminal(digits);

@@ -1,7 +1,7 @@
 // How far each net reaches in a column list.
 #![tactic(auto)]
 
-ghost use Rattle.std.specs.Prelude.{◌≡◌, cond, length};
+ghost use Rattle.std.specs.Prelude.{◌≡◌, length};
 
 use kind::Kind;
 
@@ -34,16 +34,11 @@ impl<'a> PinList<'a> {
         let mut right = kind.right_start();
         for i in 0..self.nets.len() {
             let own = self.nets[i] == net;
+            let column = self.columns[i];
             // a pin of another net moves neither end
-            left = left.min(pick(own, self.columns[i], 255));
-            right = right.max(pick(own, self.columns[i], 0));
+            left = left.min(if own { column } else { 255 });
+            right = right.max(if own { column } else { 0 });
         }
         Ends { left, right }
     }
-}
-
-fn pick(yes: bool, a: u8, b: u8) -> u8
-    ensures { result ≡ cond yes a b }
-{
-    if yes { a } else { b }
 }

@@ -32,6 +32,7 @@ fn put_text(out: &mut Writer, input: &[u8])
     ensures wrote { Writes out.old out.new (printed input.now) }
     ensures upper_bound { out.new.end ≤ out.old.end + 3598 }
 {
+    // the program's own refusal, of more than the largest sheet: no function of the library gives it, so no enum has it
     if 1548 < input.len() {
         put_refusal(out, 15);
         return;

@@ -12,6 +12,7 @@ impl Case<'_> {
     // What is to be answered: the measurement's refusal, or what the rule says.
     pub fn expected(&self) -> Answer {
         measure::measure(self.lent.sheet, self.lent.columns)?;
+        // a map in place: neither type is this crate's, so it may not write a `From`
         self.pins.route(self.room).map_err(|why| match why {
             NoTracks::TwoNets => TrackRefusal::TwoNets,
             NoTracks::Room => TrackRefusal::SpanBuffer,

@@ -43,7 +43,7 @@ fn search_layout(s: &[u8], layout: Layout, columns: &mut [u8], work: &mut [u16])
 }
 
 // Searches two sheets, each on its own buffers. Of every two sound sheets of which the second is the first loosened or
-// lengthened it promises demand 3.
+// lengthened it promises demand 3. Its two triples are those of the two calls of `search`.
 pub fn search_both(
     a: &[u8],
     c: &mut [u8],

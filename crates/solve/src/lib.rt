@@ -4,7 +4,7 @@
 ghost use Rattle.std.specs.Prelude.{◌+◌, ◌-◌, ◌≤◌, ◌≡◌, cond, length, eqb};
 ghost use Rattle.solve.specs.Solved.{plan_of, AsksSolve, Worked, Solved};
 
-use arrays::{LOADS, LoadTable, RULES, RuleTable};
+use arrays::{LoadTable, RuleTable};
 use channel::Side;
 use entry::Grid;
 use pass::{Pass, Plan};
@@ -48,11 +48,10 @@ fn find(sections: Sections, columns: &mut [u8], work: &mut [u16]) -> Option<u8>
         return None;
     }
     let plan = make_plan(l, p, q);
-    // made in place: a function that gives a table copies it
-    let mut rules = RuleTable { words: [0; RULES] };
+    let mut rules = RuleTable::new();
     read_rules(top, &mut rules, Side::Top);
     read_rules(bottom, &mut rules, Side::Bottom);
-    let mut loads = LoadTable { bytes: [0; LOADS] };
+    let mut loads = LoadTable::new();
     load::read_loads(top, bottom, &mut loads);
     let pass = Pass {
         rules: &rules,

@@ -24,10 +24,8 @@ fn closed(w: u64, by: u64, least: usize) -> u64
     ensures { (n : ℕ) → n < 64 → bit_of result n ≡ stepped w by n }
 {
     let end = 64 - u64::leading_zeros(by) as usize;
-    if least < end {
-        if by == both(from(least), below(end)) {
-            return spread(w, end - least) << least;
-        }
+    if least < end && by == both(from(least), below(end)) {
+        return spread(w, end - least) << least;
     }
     one_by_one(w, by)
 }

@@ -6,7 +6,7 @@ mod columns;
 pub use columns::{allows, amount, names_above};
 
 // The fields of one terminal's record.
-#[derive(Clone, Copy)]
+#[derive(Clone, Copy, Default)]
 pub struct Record {
     pub net: u16,
     pub least: u8,

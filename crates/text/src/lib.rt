@@ -30,7 +30,8 @@ impl<'a> Writer<'a> {
         }
     }
 
-    // The decimal digits of a number, `most` of them at most.
+    // The decimal digits of a number, `most` of them at most. By hand, since `itoa` writes every digit: each caller would have to bound its
+    // number too.
     pub fn put_digits(&mut self, n: usize, most: usize)
         requires { self.old.end + most ≤ length self.old.out.now }
         ensures { Writes self.old self.new (digits most n) }

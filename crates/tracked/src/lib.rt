@@ -10,7 +10,7 @@ use left_edge::Span;
 use refusals::{HasAmount, ListRefusal, Reason};
 
 // How many nets there are, and how many tracks they take.
-#[derive(Clone, Copy, Debug, PartialEq, Eq)]
+#[derive(Clone, Copy, Debug, Default, PartialEq, Eq)]
 pub struct Counts {
     pub nets: usize,
     pub tracks: u16,

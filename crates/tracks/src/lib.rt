@@ -81,7 +81,7 @@ fn route_nets(
     Ok(route_keys(&keys, spans))
 }
 
-// Whether a column has pins of two nets.
+// Whether a column has pins of two nets. By places: in a proof over a `zip` each list may be the one that ends it.
 fn two_nets(pins: PinList) -> bool
     requires { Each (λ (c : ℕ). c < 256) pins.columns.now }
     ensures { result ≡ two_nets (pins_in pins.entry) }

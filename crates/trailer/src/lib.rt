@@ -8,14 +8,14 @@ ghost use Rattle.trailer.specs.Trailer.{has_mark, TrailerRead};
 use little::read_number;
 
 // Where one side's section stands in the sheet: its offset and its number of terminals.
-#[derive(Clone, Copy)]
+#[derive(Clone, Copy, Default)]
 pub struct Part {
     pub at: usize,
     pub count: usize,
 }
 
 // The numbers of the trailer.
-#[derive(Clone, Copy)]
+#[derive(Clone, Copy, Default)]
 pub struct Trailer {
     pub top: Part,
     pub bottom: Part,
@@ -40,12 +40,7 @@ pub fn read_trailer(s: &[u8]) -> Trailer
     ensures { TrailerRead s.now result }
 {
     if s.len() < TRAILER {
-        let none = Part { at: 0, count: 0 };
-        return Trailer {
-            top: none,
-            bottom: none,
-            columns: 0,
-        };
+        return Trailer::default();
     }
     let at = s.len() - TRAILER;
     let top = Part {
