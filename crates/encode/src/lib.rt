@@ -11,7 +11,7 @@ use terminal::Record;
 use text::Writer;
 use trailer::{Part, Trailer};
 
-// A number in n bytes, the lowest first.
+// A number in n bytes, the lowest first. By hand, since the first n of `to_le_bytes` would ask n ≤ 8 of every caller.
 pub fn put_number(out: &mut Writer, n: usize, value: u64)
     requires { out.old.end + n ≤ length out.old.out.now }
     ensures { Writes out.old out.new (bytes n value) }

@@ -70,6 +70,7 @@ fn put_sheet(out: &mut [u8], columns: usize, top: &[u8], p: usize, bottom: &[u8]
 pub fn make(columns: usize, top: &[u8], bottom: &[u8], sheet: &mut [u8]) -> Made
     ensures { Makes columns top.now bottom.now sheet.old sheet.new result }
 {
+    // two tests with one answer: each is a case of its own in the proof
     if columns == 0 {
         return Err(ModuleRefusal::Sheet(Refusal::Length));
     }

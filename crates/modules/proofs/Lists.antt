@@ -4,12 +4,7 @@ use Rattle.std.proofs.Common.{◌≡◌, ℕ, zero, suc, ◌+◌, ◌-◌, ◌*�
 use Rattle.std.proofs.lemmas.Bool.{lt-leb}
 use Rattle.modules.specs.declared.Head.{Head}
 use Rattle.modules.specs.Modules.{Module, pin_count}
-use Rattle.modules.specs.Bytes.{pin_size, pin_at, end_at, head_at, cut_head, head_in, pins_from, module_of, modules_from, modules_at, modules_in}
-
--- of some pins the first, and those behind it
-pub pins-more : (b : List ℕ) (i n : ℕ) → 0 < n → pins_from b i n ≡ pin_at b i ∷ pins_from b (i + pin_size) (n - 1)
-pins-more b i zero h = absurd (omega arith)
-pins-more b i (suc n) h = let less : suc n - 1 ≡ n = omega arith in rw less
+use Rattle.modules.specs.Bytes.{pin_size, end_at, head_at, cut_head, head_in, pins_from, module_of, modules_from, modules_at, modules_in}
 
 pub length-pins : (b : List ℕ) (i n : ℕ) → length (pins_from b i n) ≡ n
 length-pins b i zero = refl

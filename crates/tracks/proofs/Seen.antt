@@ -1,11 +1,11 @@
 -- The scan of the pins for two nets in one column, with an array of the net last seen in each column.
 -- Assumes nothing.
-use Rattle.std.proofs.Common.{ℕ, ◌+◌, ◌<◌, arith, ◌≡◌, refl, sym, ap, ◌∙◌, List, [], ◌∷◌, Bool, true, false, not, ◌&&◌, ◌||◌, true≢false, length, get_or, drop, set, replicate, length-set, get_or-set_same, get_or-set_other, eqb, eqb-true, eq-eqb, ne_eqb}
+use Rattle.std.proofs.Common.{ℕ, ◌+◌, ◌<◌, arith, ◌≡◌, refl, sym, ap, ◌∙◌, List, [], ◌∷◌, Bool, true, false, not, ◌&&◌, ◌||◌, true≢false, length, get_or, set, replicate, length-set, get_or-set_same, get_or-set_other, eqb, eqb-true, eq-eqb, ne_eqb}
 use Rattle.std.proofs.Math.Bool.{or_assoc, or-false, or-true}
 use Rattle.std.proofs.Math.Decide.{ℕ_discrete}
 use Rattle.std.proofs.lemmas.Bool.{eqb-false}
 use Rattle.channel.specs.Density.{any, Pin}
-use Rattle.nets.proofs.Nets.{drop-next, get_or-zeros}
+use Rattle.nets.proofs.Nets.{get_or-zeros}
 use Rattle.ends.specs.Ends.{pins_of}
 use Rattle.left_edge.specs.Lists.{Each}
 use Rattle.left_edge.specs.Spans.{differ, two_nets}
@@ -93,14 +93,6 @@ none-hit (p ∷ ps) = rw (get_or-zeros 256 p.column) (none-hit ps)
 -- at first nothing was seen
 pub comes-first : (ps : List Pin) → Each Column ps → comes (replicate 256 0) ps ≡ two_nets ps
 comes-first ps h = comes_exactly (replicate 256 0) refl ps h ∙ rw (none-hit ps)
-
--- one pin more
-pub comes-more :
-    (seen ns cs : List ℕ) (i : ℕ) → i < length ns → i < length cs
-    → let p : Pin = record { net = get_or ns i 0; column = get_or cs i 0 } in
-    comes seen (pins_of (drop i ns) (drop i cs))
-    ≡ (hit seen p || comes (set seen p.column (p.net + 1)) (pins_of (drop (i + 1) ns) (drop (i + 1) cs)))
-comes-more seen ns cs i h k = rw (drop-next ns i 0 h, drop-next cs i 0 k)
 
 pub columns_fit : (ns cs : List ℕ) → Each (λ (c : ℕ). c < 256) cs → Each Column (pins_of ns cs)
 columns_fit [] cs h = tt
