@@ -28,7 +28,8 @@ fn fill_nets(part: &[u8], nets: &mut [u16])
     }
 }
 
-// Whether a net occurs from a place on. The loop has no branch, so that the compiler can take many pins at a time.
+// Whether a net occurs from a place on. The loop has no branch, so that the compiler can take many pins at a time; std's `contains` goes
+// by another equality of numbers, and what it promises takes a longer proof.
 pub fn occurs(net: u16, nets: &[u16], from: usize) -> bool
     ensures { result ≡ any (eqb net) (drop from nets.now) }
 {
