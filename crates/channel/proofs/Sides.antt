@@ -12,7 +12,7 @@ use Rattle.channel.proofs.Assignments.{later_parts, side-length}
 use Rattle.channel.proofs.Pins.{length-columns}
 
 -- the test of a later terminal, from what it asks
-later_test : (t : Terminal) (ts : List Terminal) (b c : ℕ) (cs : List ℕ)
+pub later_test : (t : Terminal) (ts : List Terminal) (b c : ℕ) (cs : List ℕ)
     → allows t.allowed c ≡ true
     → b + t.least ≤ c
     → c ≤ b + t.greatest

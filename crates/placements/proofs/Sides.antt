@@ -6,6 +6,7 @@ use Rattle.channel.specs.Sheet.{Terminal}
 use Rattle.channel.specs.Assignment.{allows, later_fit, side_fits}
 use Rattle.channel.proofs.Sets.{allowed-column}
 use Rattle.channel.proofs.Assignments.{later_parts}
+use Rattle.channel.proofs.Sides.{later_test}
 use Rattle.modules.specs.declared.Pin.{Pin}
 use Rattle.modules.specs.Modules.{Module, first_offset, last_offset, gap_of, pin_terminal, inner_terminals, pin_terminals}
 use Rattle.modules.specs.Modules.{first_least, first_greatest, terminals_behind, side_terminals}
@@ -23,12 +24,7 @@ abbrev start_behind : Bool → ℕ → ℕ → ℕ
 start_behind true gap before = 0
 start_behind false gap before = before + gap + 1
 
--- the tests of a later terminal and of a module, from what they ask, and back
-later_test :
-    (t : Terminal) (ts : List Terminal) (b c : ℕ) (cs : List ℕ) → allows t.allowed c ≡ true → b + t.least ≤ c → c ≤ b + t.greatest
-    → later_fit ts c cs ≡ true → later_fit (t ∷ ts) b (c ∷ cs) ≡ true
-later_test t ts b c cs h x y f = rw (h, le-leb (b + t.least) c x, le-leb c (b + t.greatest) y) f
-
+-- the test of a module, from what it asks, and back
 placed_test :
     (start : ℕ) (m : Module) (ms : List Module) (e : ℕ) (es : List ℕ) → allows m.edges e ≡ true → start ≤ e
     → placed_from (e + m.width) ms es ≡ true → placed_from start (m ∷ ms) (e ∷ es) ≡ true
