@@ -1,19 +1,22 @@
 -- The lowest free track, where an array holds how far right each track is used: 0 where it is not used yet.
 -- Assumes nothing.
-use Rattle.std.proofs.Common.{ℕ, suc, ◌+◌, ◌≤◌, ◌<◌, arith, ◌≡◌, refl, sym, ap, ◌∙◌, List, [], ◌∷◌, Bool, true, false, cond, length, get_or, drop, set, replicate, length-set, ltb, ltb-true, ltb-false, lt-ltb, le-ltb, ne_eqb}
-use Rattle.nets.proofs.Nets.{drop-next, get_or-zeros}
+use Rattle.std.proofs.Common.{ℕ, suc, ◌+◌, ◌≤◌, ◌<◌, arith, ◌≡◌, refl, sym, ap, ◌∙◌, List, [], ◌∷◌, Bool, true, false, cond, length, get_or, set, replicate, length-set, ltb, ltb-true, ltb-false, lt-ltb, le-ltb, leb, leb-true, leb-false, ne_eqb}
+use Rattle.std.specs.List.{prefix_len}
+use Rattle.nets.proofs.Nets.{get_or-zeros}
 use Rattle.left_edge.specs.declared.Interval.{Interval}
 use Rattle.left_edge.specs.Lists.{Each}
 use Rattle.left_edge.specs.Method.{passed, place, track_on, step, left_edge_from, left_edge}
 use Rattle.left_edge.proofs.Method.{passed_free, passed-reach, step_at_lem}
 
--- a scan of the tracks: one that reaches the column is passed, and the first that does not is free
-module _ (es : List ℕ) (l i : ℕ) (inside : i < length es) where
-  pub passed-more : l ≤ get_or es i 0 → passed (drop i es) l ≡ suc (passed (drop (i + 1) es) l)
-  passed-more h = rw (drop-next es i 0 inside, le-ltb (get_or es i 0) l h)
-
-  pub passed_stop : get_or es i 0 < l → passed (drop i es) l ≡ 0
-  passed_stop h = rw (drop-next es i 0 inside, lt-ltb (get_or es i 0) l h)
+-- the tracks passed are those in front that reach the column
+pub passed-prefix : (es : List ℕ) (l : ℕ) → prefix_len (λ (e : ℕ). leb l e) es ≡ passed es l
+passed-prefix [] l = refl
+passed-prefix (e ∷ es) l = go (leb l e) refl (passed-prefix es l)
+  where
+    go : (t : Bool) → leb l e ≡ t → prefix_len (λ (x : ℕ). leb l x) es ≡ passed es l
+        → prefix_len (λ (x : ℕ). leb l x) (e ∷ es) ≡ cond (ltb e l) 0 (suc (passed es l))
+    go true q r = rw (q, le-ltb e l (leb-true l e q), r) (omega arith)
+    go false q r = rw (q, lt-ltb e l (leb-false l e q))
 
 -- to write the right end there is to place the interval
 pub place_set : (es : List ℕ) (l r : ℕ) → passed es l < length es → set es (passed es l) r ≡ place es l r

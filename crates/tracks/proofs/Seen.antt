@@ -1,6 +1,6 @@
 -- The scan of the pins for two nets in one column, with an array of the net last seen in each column.
 -- Assumes nothing.
-use Rattle.std.proofs.Common.{ℕ, ◌+◌, ◌<◌, arith, ◌≡◌, refl, sym, ap, ◌∙◌, List, [], ◌∷◌, Bool, true, false, not, ◌&&◌, ◌||◌, true≢false, length, get_or, set, replicate, length-set, get_or-set_same, get_or-set_other, eqb, eqb-true, eq-eqb, ne_eqb}
+use Rattle.std.proofs.Common.{ℕ, ◌+◌, ◌<◌, arith, ◌≡◌, refl, sym, ap, ◌∙◌, List, [], ◌∷◌, ◌⊎◌, inl, inr, Bool, true, false, not, ◌&&◌, ◌||◌, true≢false, length, get_or, set, replicate, length-set, get_or-set_same, get_or-set_other, eqb, eqb-true, eq-eqb, ne_eqb}
 use Rattle.std.proofs.Math.Bool.{or_assoc, or-false, or-true}
 use Rattle.std.proofs.Math.Decide.{ℕ_discrete}
 use Rattle.std.proofs.lemmas.Bool.{eqb-false}
@@ -98,3 +98,10 @@ pub columns_fit : (ns cs : List ℕ) → Each (λ (c : ℕ). c < 256) cs → Eac
 columns_fit [] cs h = tt
 columns_fit (n ∷ ns) [] h = tt
 columns_fit (n ∷ ns) (c ∷ cs) h = (h.0, columns_fit ns cs h.1)
+
+-- no pin comes once the nets or the columns have ended
+pub comes_end : (found : Bool) (seen ns cs : List ℕ) → (length ns ≡ 0) ⊎ (length cs ≡ 0) → (found || comes seen (pins_of ns cs)) ≡ found
+comes_end found seen [] cs e = or-false found
+comes_end found seen (n ∷ ns) [] e = or-false found
+comes_end found seen (n ∷ ns) (c ∷ cs) (inl e) = absurd (omega arith)
+comes_end found seen (n ∷ ns) (c ∷ cs) (inr e) = absurd (omega arith)

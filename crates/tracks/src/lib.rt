@@ -3,7 +3,7 @@
 
 mod method;
 
-ghost use Rattle.std.specs.Prelude.{◌≡◌, ℕ, ◌≤◌, ◌<◌, length};
+ghost use Rattle.std.specs.Prelude.{◌≡◌, ℕ, ◌<◌};
 ghost use Rattle.soundness.specs.Read.{sheet_of};
 ghost use Rattle.ends.specs.Pins.{pins_in};
 ghost use Rattle.left_edge.specs.Lists.{Each};
@@ -67,7 +67,7 @@ fn route_nets(
     room: usize,
     spans: &mut ArrayVec<Span, 128>,
 ) -> Result<u16, TrackRefusal>
-    requires { Columns pins.columns.now l × (length pins.nets.now ≤ 128) }
+    requires { Columns pins.columns.now l }
     ensures { GivesIn l (pins_in pins.entry) pins.entry.nets.now room (routed_of spans.new result) }
 {
     if two_nets(pins) {
@@ -81,7 +81,7 @@ fn route_nets(
     Ok(route_keys(&keys, spans))
 }
 
-// Whether a column has pins of two nets. By places: in a proof over a `zip` each list may be the one that ends it.
+// Whether a column has pins of two nets.
 fn two_nets(pins: PinList) -> bool
     requires { Each (λ (c : ℕ). c < 256) pins.columns.now }
     ensures { result ≡ two_nets (pins_in pins.entry) }
@@ -89,12 +89,12 @@ fn two_nets(pins: PinList) -> bool
     // one more than the net of the last pin in each column, 0 where there was none
     let mut seen: [u32; 256] = [0; 256];
     let mut found = false;
-    for i in 0..pins.nets.len() {
-        let mark = pins.nets[i] as u32 + 1;
-        let column = pins.columns[i] as usize;
-        let before = seen[column];
+    for (net, column) in pins.nets.iter().zip(pins.columns) {
+        let mark = *net as u32 + 1;
+        let place = *column as usize;
+        let before = seen[place];
         found |= (before != 0) & (before != mark);
-        seen[column] = mark;
+        seen[place] = mark;
     }
     found
 }

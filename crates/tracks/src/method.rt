@@ -53,15 +53,10 @@ fn take_track(x: Interval, ends: &mut [u8]) -> u16
     (i + 1) as u16
 }
 
-// The first track that ends left of a column, counted from 0. A `for`, as the proof from what `position` promises is longer.
+// The first track that ends left of a column, counted from 0.
 fn free_track(ends: &[u8], left: u8) -> usize
     requires { passed ends.now left < length ends.now }
     ensures { result ≡ passed ends.now left }
 {
-    for (i, end) in ends.iter().enumerate() {
-        if *end < left {
-            return i;
-        }
-    }
-    ends.len()
+    ends.iter().take_while(|end| left <= **end).count()
 }

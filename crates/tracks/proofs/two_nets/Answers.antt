@@ -1,9 +1,16 @@
-use Rattle.std.proofs.Common.{refl, sym}
+use Rattle.std.proofs.Common.{rules, inl, inr, sym, ◌∙◌, ⊎_elim}
 use Rattle.ends.specs.Pins.{pins_in}
-use Rattle.tracks.proofs.Seen.{comes-first, columns_fit}
+use Rattle.tracks.proofs.Seen.{comes-first, comes_end, columns_fit}
 use Rattle.tracks.proofs.two_nets.Goals as goal
 
-pub loop-i-init : goal.loop-i-init
-loop-i-init c =
+pub loop-net-init : goal.loop-net-init
+loop-net-init c =
     let pins = c.args.pins in
-    (refl, sym (comes-first (pins_in pins) (columns_fit pins.nets.now pins.columns.now c.requires)))
+    let start = sym (comes-first (pins_in pins) (columns_fit pins.nets.now pins.columns.now c.requires)) in
+    search rules
+
+-- the nets or the columns have ended
+pub returns : goal.returns
+returns c =
+    let l = c.loop-net in
+    sym (l.invariant.1 ∙ comes_end l.found l.seen _ _ (⊎_elim (λ e. inl e.1.0) (λ e. inr e.1.0) c.in-None.ensures.steps))
