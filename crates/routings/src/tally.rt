@@ -1,6 +1,8 @@
 // What occurs among the routings: without it, that none differs would say little.
+use crate::SHEETS;
 use crate::answers::Answer;
 use enumeration::{Routing, leaves};
+use std::fmt;
 use tracked::TrackRefusal;
 
 // All routings: those with tracks, refused with 18, with 9 and as a measurement is, and those that differ. Of the spans: how many there
@@ -45,5 +47,28 @@ impl Tally {
             count(&mut self.trackless, span.track == 0);
             count(&mut self.leaving, leaves(span.net).any());
         }
+    }
+}
+
+impl fmt::Display for Tally {
+    fn fmt<W: fmt::Write>(&self, f: &mut fmt::Formatter<W>) -> fmt::Result {
+        write!(f, "{SHEETS} sheets, {} routings, ", self.routings)?;
+        write!(
+            f,
+            "{} with tracks, {} refused with 18, ",
+            self.routed, self.two_nets
+        )?;
+        write!(
+            f,
+            "{} with 9, {} as in a measurement, ",
+            self.no_room, self.refused
+        )?;
+        write!(f, "{} spans, {} on track 0, ", self.spans, self.trackless)?;
+        write!(
+            f,
+            "{} of a net that leaves, {} tracks at the most, ",
+            self.leaving, self.most
+        )?;
+        write!(f, "{} differences", self.wrong)
     }
 }

@@ -3,7 +3,6 @@
 #![tactic(auto)]
 
 use cases::{Command, low};
-use fixtures::Page;
 use format::Side;
 use std::io::{self, Write};
 
@@ -44,18 +43,8 @@ fn ask<W: Write>(out: &mut W, s: &[u8], command: Command) -> io::Result<()> {
     }
 }
 
-fn run<W: Write>(out: &mut W, text: &str) -> io::Result<()> {
-    let mut page = Page::new();
-    for line in text.lines().filter(|line| !cases::is_remark(line)) {
-        for command in line.split("; ").map(cases::read) {
-            cases::build(&mut page, command);
-            ask(out, page.sheet(), command)?;
-        }
-    }
-    Ok(())
-}
-
 fn main(rt: HostRuntime) -> io::Result<()> {
     let text = io::read_to_string(rt.alloc(), rt.reader())?;
-    run(&mut io::writer(&rt), &text)
+    let mut out = io::writer(&rt);
+    cases::each(&text, |command, s| ask(&mut out, s, command))
 }

@@ -2,6 +2,7 @@
 use cursor::Cursor;
 use format::Side;
 use printing::{Columns, Fields, Place, letter};
+use std::fmt;
 use std::io::{self, Write};
 use terminal::Record;
 
@@ -15,30 +16,43 @@ pub fn shape<W: Write>(out: &mut W, s: &[u8]) -> io::Result<()> {
     writeln!(out, " cells {} pins {}", shape.cells, shape.pins)
 }
 
-fn record<W: Write>(out: &mut W, r: Record) -> io::Result<()> {
-    writeln!(out, " {} 0x{:x}", Fields(r), r.allowed)
+// A record's numbers, with its set.
+#[derive(Clone, Copy)]
+struct Whole(Record);
+
+impl fmt::Display for Whole {
+    fn fmt<W: fmt::Write>(&self, f: &mut fmt::Formatter<W>) -> fmt::Result {
+        write!(f, "{} 0x{:x}", Fields(self.0), self.0.allowed)
+    }
 }
 
-fn entry<W: Write>(out: &mut W, found: Option<Record>) -> io::Result<()> {
-    match found {
-        Some(r) => record(out, r),
-        None => writeln!(out, " nothing"),
+// What stands at a place.
+#[derive(Clone, Copy)]
+struct Entry(Option<Record>);
+
+impl fmt::Display for Entry {
+    fn fmt<W: fmt::Write>(&self, f: &mut fmt::Formatter<W>) -> fmt::Result {
+        match self.0 {
+            Some(r) => write!(f, "{}", Whole(r)),
+            None => write!(f, "nothing"),
+        }
     }
 }
 
 // The records of a side from one place up to another.
 pub fn records<W: Write>(out: &mut W, s: &[u8], side: Side, from: u64, end: u64) -> io::Result<()> {
     for place in from as usize..end as usize {
-        write!(out, "  record {}:", Place(side, place))?;
-        entry(out, sheet::record_at(s, side, place))?;
+        let found = Entry(sheet::record_at(s, side, place));
+        writeln!(out, "  record {}: {found}", Place(side, place))?;
     }
     Ok(())
 }
 
 // The record at a place of a section.
 pub fn record_in<W: Write>(out: &mut W, part: &[u8], place: u64) -> io::Result<()> {
-    write!(out, "  record {place} of a section of {}:", part.len())?;
-    entry(out, sheet::record_in(part, place as usize))
+    let length = part.len();
+    let found = Entry(sheet::record_in(part, place as usize));
+    writeln!(out, "  record {place} of a section of {length}: {found}")
 }
 
 // A section's length and its first bytes, at most sixteen.
@@ -73,13 +87,9 @@ pub fn step_after<W: Write>(out: &mut W, s: &[u8], passed: u64) -> io::Result<()
 fn step<W: Write>(out: &mut W, s: &[u8], cursor: Cursor) -> io::Result<Cursor> {
     match cursor.step(s) {
         Some((visit, next)) => {
-            write!(
-                out,
-                "step {}: {}",
-                next.passed,
-                Place(visit.side, visit.place)
-            )?;
-            record(out, visit.terminal)?;
+            let place = Place(visit.side, visit.place);
+            let terminal = Whole(visit.terminal);
+            writeln!(out, "step {}: {place} {terminal}", next.passed)?;
             Ok(next)
         }
         None => {
