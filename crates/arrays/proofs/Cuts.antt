@@ -1,14 +1,8 @@
 -- Laws of the loads of a cut: what is put in is read again, and the loads of every other cut are as they were.
 -- Assumes nothing.
-use Rattle.std.proofs.Common.{ℕ, ◌+◌, ◌/◌, ◌%◌, ◌≤◌, ◌<◌, ◌≡◌, ◌∙◌, ap, List, arith, add-zero, length, get_or, set, length-set, get_or-set_same, get_or-set_other}
+use Rattle.std.proofs.Common.{ℕ, ◌+◌, ◌≤◌, ◌≡◌, ◌∙◌, ap, List, arith, add-zero, length, get_or, set, length-set, get_or-set_same, get_or-set_other}
 use Rattle.arrays.specs.Rules.{pins}
 use Rattle.arrays.specs.Loads.{load_bytes, cut_place, load_at, put_loads}
-
--- every byte is a load of some cut, so that what is said of all cuts is said of every byte
-pub every-load :
-    (k : ℕ) → k < load_bytes
-    → (i : ℕ) × (j : ℕ) × (letter : ℕ) × (i ≤ pins) × (j ≤ pins) × (letter ≤ 2) × (k ≡ cut_place i j + letter)
-every-load k h = (k / 3 / 65, k / 3 % 65, k % 3, omega arith, omega arith, omega arith, omega arith)
 
 pub length-put_loads : (loads : List ℕ) (i j top bottom both : ℕ) → length (put_loads loads i j top bottom both) ≡ length loads
 length-put_loads loads i j top bottom both = simp length-set

@@ -3,22 +3,6 @@
 use Rattle.std.proofs.Common.{ℕ, ◌+◌, ◌-◌, ◌/◌, ◌%◌, ◌≤◌, ◌<◌, ◌≡◌, refl, ◌∙◌, List, Bool, true, false, ◌⊎◌, inl, inr, arith, length, set, length-set, get_or-set_same, get_or-set_other, ltb, ltb-true, ltb-false}
 use Rattle.arrays.specs.Rules.{pins, rule_words, range_place, allowed_place, range_at, allowed_at, put_rule}
 
--- every word is one of some terminal's, so that what is said of all terminals is said of every word
-pub every_rule :
-    (k : ℕ) → k < rule_words
-    → (side : ℕ) × (i : ℕ) × (side ≤ 1) × (1 ≤ i) × (i ≤ pins) × ((k ≡ range_place side i) ⊎ (k ≡ allowed_place side i))
-every_rule k h = by-test (ltb (k % 128) pins) refl
-  where
-    by-test :
-        (t : Bool) → ltb (k % 128) pins ≡ t
-        → (side : ℕ) × (i : ℕ) × (side ≤ 1) × (1 ≤ i) × (i ≤ pins) × ((k ≡ range_place side i) ⊎ (k ≡ allowed_place side i))
-    by-test true e =
-        let low = ltb-true (k % 128) pins e in
-        (k / 128, k % 128 + 1, omega arith, omega arith, omega arith, inl (omega arith))
-    by-test false e =
-        let high = ltb-false (k % 128) pins e in
-        (k / 128, k % 128 - pins + 1, omega arith, omega arith, omega arith, inr (omega arith))
-
 module _ (rules : List ℕ) (side i w a : ℕ) (low : 1 ≤ i) (high : i ≤ pins) where
   -- the range is in
   half : List ℕ
