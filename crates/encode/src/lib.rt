@@ -2,7 +2,7 @@
 #![tactic(auto)]
 
 ghost use Rattle.std.specs.Prelude.{◌+◌, ◌≤◌, length};
-ghost use Rattle.text.specs.Writing.{Writes};
+ghost use Rattle.text.specs.Writing.{HasRoom, Writes};
 ghost use Rattle.terminal.specs.Terminal.{terminal_of};
 ghost use Rattle.format.specs.Format.{record_size};
 ghost use Rattle.encode.specs.Encode.{bytes, record_bytes, part_bytes, trailer_bytes};
@@ -11,21 +11,17 @@ use terminal::Record;
 use text::Writer;
 use trailer::{Part, Trailer};
 
-// A number in n bytes, the lowest first. By hand, since the first n of `to_le_bytes` would ask n ≤ 8 of every caller.
-pub fn put_number(out: &mut Writer, n: usize, value: u64)
-    requires { out.old.end + n ≤ length out.old.out.now }
+// A number in n bytes, the lowest first.
+fn put_number(out: &mut Writer, n: usize, value: u64)
+    requires { (n ≤ 8) × HasRoom out.old n }
     ensures { Writes out.old out.new (bytes n value) }
 {
-    let mut rest = value;
-    for i in 0..n {
-        out.put_byte((rest % 256) as u8);
-        rest /= 256;
-    }
+    out.put_text(&value.to_le_bytes()[..n]);
 }
 
 // A terminal's record.
 pub fn put_record(out: &mut Writer, r: Record)
-    requires { out.old.end + record_size ≤ length out.old.out.now }
+    requires { HasRoom out.old record_size }
     ensures { Writes out.old out.new (record_bytes (terminal_of r)) }
 {
     put_number(out, 2, r.net as u64);
@@ -36,7 +32,7 @@ pub fn put_record(out: &mut Writer, r: Record)
 
 // Where a section stands.
 fn put_part(out: &mut Writer, part: Part)
-    requires { out.old.end + 4 ≤ length out.old.out.now }
+    requires { HasRoom out.old 4 }
     ensures { Writes out.old out.new (part_bytes part) }
 {
     put_number(out, 2, part.at as u64);
@@ -45,7 +41,7 @@ fn put_part(out: &mut Writer, part: Part)
 
 // The trailer, with the mark at its end.
 pub fn put_trailer(out: &mut Writer, t: Trailer, mark: &[u8])
-    requires { out.old.end + 10 + length mark.now ≤ length out.old.out.now }
+    requires { HasRoom out.old (10 + length mark.now) }
     ensures { Writes out.old out.new (trailer_bytes t mark.now) }
 {
     put_part(out, t.top);

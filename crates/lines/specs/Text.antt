@@ -1,10 +1,9 @@
 -- The lines of the program's text, in ASCII (document 01, "The program").
 -- Assumes nothing.
-use Rattle.std.specs.Prelude.{ℕ, List, [], ◌∷◌, ◌++◌, Option, Some, None}
+use Rattle.std.specs.Prelude.{ℕ, List, [], ◌∷◌, ◌++◌}
 use Rattle.channel.specs.declared.Side.{Side}
 use Rattle.channel.specs.declared.Side.TheVariants.{Top, Bottom}
 use Rattle.cursor.specs.declared.Visit.{Visit}
-use Rattle.terminal.specs.declared.Record.{Record}
 use Rattle.text.specs.Digits as text
 
 -- a name and its number: none that is printed has more than five digits, since nets have 16 bits
@@ -32,11 +31,6 @@ letter_of Bottom = 66
 -- "side, place in that side's order from 1, net, column"
 unfoldable pub line : Visit → ℕ → List ℕ
 line v c = letter_of v.side ∷ (field space_name v.place ++ (field net_name v.terminal.net ++ (field col_name c ++ newline)))
-
--- the line of the terminal at a side and place, with column c; none where there is no terminal
-abbrev pub entry_line : Side → ℕ → Option Record → ℕ → List ℕ
-entry_line side place (Some r) c = line (record { side = side; place = place; terminal = r }) c
-entry_line side place None c = []
 
 -- a line for each terminal and its column
 abbrev pub lines : List Visit → List ℕ → List ℕ

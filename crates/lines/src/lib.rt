@@ -4,12 +4,11 @@
 ghost use Rattle.std.specs.Prelude.{◌≡◌, ◌+◌, ◌*◌, ◌≤◌, length};
 ghost use Rattle.format.specs.Parts.{terminals_in};
 ghost use Rattle.cursor.specs.Visits.{visits};
-ghost use Rattle.text.specs.Writing.{Writes};
-ghost use Rattle.lines.specs.Text.{letter_of, line, entry_line, lines};
+ghost use Rattle.text.specs.Writing.{HasRoom, Writes};
+ghost use Rattle.lines.specs.Text.{letter_of, line, lines};
 
 use cursor::Visit;
-use format::Side;
-use terminal::Record;
+use format::{Side, Terminals};
 use text::Writer;
 
 // Numbers are printed with so many digits at most.
@@ -26,7 +25,7 @@ fn letter(side: Side) -> u8
 
 // The line of a terminal and its column: side, place, net, column. It has 28 bytes at most.
 fn put_line(out: &mut Writer, visit: Visit, column: u8)
-    requires { out.old.end + 28 ≤ length out.old.out.now }
+    requires { HasRoom out.old 28 }
     ensures wrote { Writes out.old out.new (line visit column) }
     ensures upper_bound { out.new.end ≤ out.old.end + 28 }
 {
@@ -38,31 +37,18 @@ fn put_line(out: &mut Writer, visit: Visit, column: u8)
     out.put_byte(b'\n');
 }
 
-// The line of a terminal that is found at a side and place; nothing where there is none.
-fn put_entry(out: &mut Writer, side: Side, place: usize, entry: Option<Record>, column: u8)
-    requires { out.old.end + 28 ≤ length out.old.out.now }
-    ensures wrote { Writes out.old out.new (entry_line side place entry column) }
-    ensures upper_bound { out.new.end ≤ out.old.end + 28 }
-{
-    if let Some(terminal) = entry {
-        let visit = Visit {
-            side,
-            place,
-            terminal,
-        };
-        put_line(out, visit, column);
-    }
-}
-
 // A line for each terminal of a side's section and its column.
 pub fn put_side(out: &mut Writer, side: Side, part: &[u8], columns: &[u8])
-    requires { out.old.end + 28 * length columns.now ≤ length out.old.out.now }
+    requires { HasRoom out.old (28 * length columns.now) }
     ensures wrote { Writes out.old out.new (lines (visits side 1 (terminals_in part.now)) columns.now) }
     ensures upper_bound { out.new.end ≤ out.old.end + 28 * length columns.now }
 {
-    // by place, which stands in the line
-    for (k, column) in columns.iter().enumerate() {
-        let entry = sheet::record_in(part, k + 1);
-        put_entry(out, side, k + 1, entry, *column);
+    for (k, (terminal, column)) in Terminals::new(part).zip(columns).enumerate() {
+        let visit = Visit {
+            side,
+            place: k + 1,
+            terminal,
+        };
+        put_line(out, visit, *column);
     }
 }

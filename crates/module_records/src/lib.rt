@@ -2,7 +2,7 @@
 #![tactic(auto)]
 
 ghost use Rattle.std.specs.Prelude.{◌≡◌, ◌+◌, ◌-◌, ◌*◌, ◌^◌, ◌≤◌, ◌<◌, length};
-ghost use Rattle.text.specs.Writing.{Writes};
+ghost use Rattle.text.specs.Writing.{HasRoom, Writes};
 ghost use Rattle.terminal.specs.Terminal.{record_of};
 ghost use Rattle.format.specs.Format.{record_size};
 ghost use Rattle.encode.specs.Encode.{section_bytes};
@@ -33,7 +33,7 @@ fn record_of(pin: Pin, edges: u64, least: u8, greatest: u8) -> Record
 
 // The records of a module's pins behind one at `before`, each at its distance from the one before; and the gap right of the last.
 fn put_inner(out: &mut Writer, pins: Pins, width: u8, edges: u64, before: u8) -> u8
-    requires { (out.old.end + record_size * length (pins_left pins) ≤ length out.old.out.now)
+    requires { HasRoom out.old (record_size * length (pins_left pins))
         × Later width edges before (pins_left pins) }
     ensures records { Writes out.old out.new (section_bytes (inner_terminals edges before (pins_left pins.entry))) }
     ensures gap { result ≡ width - last_offset before (pins_left pins.entry) }
@@ -70,7 +70,7 @@ fn first_greatest(gap: Option<u8>) -> u8
 // The records of one module, behind the gap that the module before leaves, if there is one; and the gap that it leaves.
 fn put_module(out: &mut Writer, m: Module, gap: Option<u8>) -> u8
     requires { Writable (module_left m) × (gap_behind gap ≤ 64)
-        × (out.old.end + record_size * length (pins_left m.pins) ≤ length out.old.out.now) }
+        × HasRoom out.old (record_size * length (pins_left m.pins)) }
     ensures records { Writes out.old out.new (section_bytes (module_terminals (is_first gap) (gap_behind gap) (module_left m.entry))) }
     ensures gap { result ≡ gap_of (module_left m.entry) }
 {
@@ -87,7 +87,7 @@ fn put_module(out: &mut Writer, m: Module, gap: Option<u8>) -> u8
 // The records of a side.
 pub fn put_modules(out: &mut Writer, side: &[u8])
     requires { AllWritable (modules_in side.now)
-        × (out.old.end + record_size * pin_count (modules_in side.now) ≤ length out.old.out.now) }
+        × HasRoom out.old (record_size * pin_count (modules_in side.now)) }
     ensures { Writes out.old out.new (section_bytes (side_terminals (modules_in side.now))) }
 {
     let mut gap: Option<u8> = None;

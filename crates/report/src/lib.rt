@@ -3,7 +3,7 @@
 
 ghost use Rattle.std.specs.Prelude.{◌≡◌, ◌+◌, ◌*◌, ◌≤◌, length, take};
 ghost use Rattle.sheet.specs.Parts.{shape_of, opened_of};
-ghost use Rattle.text.specs.Writing.{Writes};
+ghost use Rattle.text.specs.Writing.{HasRoom, Writes};
 ghost use Rattle.report.specs.Printed.{refusal, headed, printed, Prints};
 ghost use Rattle.lines.specs.Text.{lines};
 ghost use Rattle.report.specs.Writing.{visits_of};
@@ -28,7 +28,7 @@ pub fn print(input: &[u8], out: &mut [u8; ROOM]) -> usize
 
 // The text of an input.
 fn put_text(out: &mut Writer, input: &[u8])
-    requires { out.old.end + 3598 ≤ length out.old.out.now }
+    requires { HasRoom out.old 3598 }
     ensures wrote { Writes out.old out.new (printed input.now) }
     ensures upper_bound { out.new.end ≤ out.old.end + 3598 }
 {
@@ -47,7 +47,7 @@ fn put_text(out: &mut Writer, input: &[u8])
 
 // The single line of a refusal.
 fn put_refusal(out: &mut Writer, number: usize)
-    requires { out.old.end + 14 ≤ length out.old.out.now }
+    requires { HasRoom out.old 14 }
     ensures wrote { Writes out.old out.new (refusal number) }
     ensures upper_bound { out.new.end ≤ out.old.end + 14 }
 {
@@ -58,7 +58,7 @@ fn put_refusal(out: &mut Writer, number: usize)
 // The line of the density, then a line for each terminal.
 fn put_result(out: &mut Writer, input: &[u8], density: u8, columns: &[u8])
     requires input_in_bounds { (shape_of input.now).pins ≤ length columns.now }
-    requires columns_in_bounds { out.old.end + 14 + 28 * length columns.now ≤ length out.old.out.now }
+    requires columns_in_bounds { HasRoom out.old (14 + 28 * length columns.now) }
     ensures wrote { Writes out.old out.new
         (headed density (lines (visits_of input.now) (take (shape_of input.now).pins columns.now))) }
     ensures upper_bound { out.new.end ≤ out.old.end + 14 + 28 * length columns.now }
@@ -74,7 +74,7 @@ fn put_result(out: &mut Writer, input: &[u8], density: u8, columns: &[u8])
 // A line for each terminal of a sheet that opened with this layout, top then bottom.
 fn put_sides(out: &mut Writer, input: &[u8], layout: Layout, columns: &[u8])
     requires { (opened_of input.now ≡ Ok layout) × (layout.shape.pins ≤ length columns.now)
-        × (out.old.end + 28 * length columns.now ≤ length out.old.out.now) }
+        × HasRoom out.old (28 * length columns.now) }
     ensures wrote { Writes out.old out.new (lines (visits_of input.now) (take layout.shape.pins columns.now)) }
     ensures upper_bound { out.new.end ≤ out.old.end + 28 * length columns.now }
 {

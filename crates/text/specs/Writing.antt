@@ -1,6 +1,6 @@
 -- A text written into a buffer from a place on.
 -- Assumes nothing.
-use Rattle.std.specs.Prelude.{ℕ, ◌+◌, ◌≡◌, List, length}
+use Rattle.std.specs.Prelude.{ℕ, ◌+◌, ◌≡◌, ◌≤◌, List, length}
 use Rattle.std.proofs.lemmas.List.Edits.{sets}
 use Rattle.text.specs.declared.Writer.{Writer}
 
@@ -8,6 +8,10 @@ use Rattle.text.specs.declared.Writer.{Writer}
 pub record Wrote (old : List ℕ) (at : ℕ) (text new : List ℕ) (end : ℕ) : Type 0 where
   pub bytes : new ≡ sets old at text
   pub place : end ≡ at + length text
+
+-- so many bytes more fit into the buffer
+abbrev pub HasRoom : Writer → ℕ → Type 0
+HasRoom w n = w.end + n ≤ length w.out.now
 
 -- what is written behind, in the same buffer
 pub record Writes (old new : Writer) (text : List ℕ) : Type 0 where

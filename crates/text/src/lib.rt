@@ -3,7 +3,7 @@
 
 ghost use Rattle.std.specs.Prelude.{◌≡◌, ◌∷◌, [], ◌+◌, ◌≤◌, ◌<◌, length};
 ghost use Rattle.text.specs.Digits.{digits, field};
-ghost use Rattle.text.specs.Writing.{Writes};
+ghost use Rattle.text.specs.Writing.{HasRoom, Writes};
 
 // A buffer, and the place in it behind what is written.
 #[derive(Drop)]
@@ -22,7 +22,7 @@ impl<'a> Writer<'a> {
     }
 
     pub fn put_text(&mut self, text: &[u8])
-        requires { self.old.end + length text.now ≤ length self.old.out.now }
+        requires { HasRoom self.old (length text.now) }
         ensures { Writes self.old self.new text.now }
     {
         for byte in text {
@@ -33,7 +33,7 @@ impl<'a> Writer<'a> {
     // The decimal digits of a number, `most` of them at most. By hand, since `itoa` writes every digit: each caller would have to bound its
     // number too.
     pub fn put_digits(&mut self, n: usize, most: usize)
-        requires { self.old.end + most ≤ length self.old.out.now }
+        requires { HasRoom self.old most }
         ensures { Writes self.old self.new (digits most n) }
     {
         if most == 0 {
@@ -49,7 +49,7 @@ impl<'a> Writer<'a> {
 
     // A name and its number, of `most` digits at most.
     pub fn put_field(&mut self, name: &[u8], n: usize, most: usize)
-        requires { self.old.end + length name.now + most ≤ length self.old.out.now }
+        requires { HasRoom self.old (length name.now + most) }
         ensures wrote { Writes self.old self.new (field most name.now n) }
         ensures upper_bound { self.new.end ≤ self.old.end + length name.now + most }
     {
