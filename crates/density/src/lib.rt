@@ -36,7 +36,7 @@ pub fn list_density(sections: Sections, columns: &[u8]) -> u32
 
 // Counts each net once.
 fn count_nets(pins: PinList, counts: &mut [u16])
-    requires { counts.old ≡ replicate 256 0 }
+    requires { (length pins.nets.now ≤ 128) × (counts.old ≡ replicate 256 0) }
     ensures { (c : ℕ) → get_or counts.new c 0 ≡ counted_at pins.entry.nets.now pins.entry.columns.now c }
 {
     for net in (Distinct { left: pins.nets }) {

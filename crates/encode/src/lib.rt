@@ -1,7 +1,7 @@
 // A sheet's numbers, records and trailer, written into a buffer.
 #![tactic(auto)]
 
-ghost use Rattle.std.specs.Prelude.{◌+◌, ◌≤◌, length};
+ghost use Rattle.std.specs.Prelude.{◌+◌, length};
 ghost use Rattle.text.specs.Writing.{HasRoom, Writes};
 ghost use Rattle.terminal.specs.Terminal.{terminal_of};
 ghost use Rattle.format.specs.Format.{record_size};
@@ -11,12 +11,16 @@ use terminal::Record;
 use text::Writer;
 use trailer::{Part, Trailer};
 
-// A number in n bytes, the lowest first.
-fn put_number(out: &mut Writer, n: usize, value: u64)
-    requires { (n ≤ 8) × HasRoom out.old n }
+// A number in n bytes, the lowest first. By hand, since the first n of `to_le_bytes` would ask n ≤ 8 of every caller.
+pub fn put_number(out: &mut Writer, n: usize, value: u64)
+    requires { HasRoom out.old n }
     ensures { Writes out.old out.new (bytes n value) }
 {
-    out.put_text(&value.to_le_bytes()[..n]);
+    let mut rest = value;
+    for i in 0..n {
+        out.put_byte((rest % 256) as u8);
+        rest /= 256;
+    }
 }
 
 // A terminal's record.

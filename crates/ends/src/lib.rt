@@ -1,7 +1,7 @@
 // How far each net reaches in a column list.
 #![tactic(auto)]
 
-ghost use Rattle.std.specs.Prelude.{◌≡◌, ◌≤◌, length};
+ghost use Rattle.std.specs.Prelude.{◌≡◌, length};
 
 use kind::Kind;
 
@@ -12,13 +12,12 @@ pub struct Ends {
     pub right: u8,
 }
 
-// The pins of a column list, at most 128: the net and the column of each.
+// The pins of a column list: the net and the column of each.
 #[derive(Clone, Copy)]
 pub struct PinList<'a> {
     pub nets: &'a [u16],
     pub columns: &'a [u8],
     ghost paired: { length nets.now ≡ length columns.now },
-    ghost few: { length nets.now ≤ 128 },
 }
 
 impl<'a> PinList<'a> {

@@ -3,7 +3,7 @@
 
 mod method;
 
-ghost use Rattle.std.specs.Prelude.{◌≡◌, ℕ, ◌<◌};
+ghost use Rattle.std.specs.Prelude.{◌≡◌, ℕ, ◌≤◌, ◌<◌, length};
 ghost use Rattle.soundness.specs.Read.{sheet_of};
 ghost use Rattle.ends.specs.Pins.{pins_in};
 ghost use Rattle.left_edge.specs.Lists.{Each};
@@ -67,7 +67,7 @@ fn route_nets(
     room: usize,
     spans: &mut ArrayVec<Span, 128>,
 ) -> Result<u16, TrackRefusal>
-    requires { Columns pins.columns.now l }
+    requires { Columns pins.columns.now l × (length pins.nets.now ≤ 128) }
     ensures { GivesIn l (pins_in pins.entry) pins.entry.nets.now room (routed_of spans.new result) }
 {
     if two_nets(pins) {

@@ -6,15 +6,15 @@ use Rattle.density.proofs.count_nets.Goals as goal
 
 pub loop-net-init : goal.loop-net-init
 loop-net-init c =
-    let start = counted_none c.args.pins.nets.now c.args.pins.columns.now 256 c.args.counts.now c.requires in
-    let size = ap length c.requires ∙ length-replicate {A = ℕ} 256 0 in
+    let start = counted_none c.args.pins.nets.now c.args.pins.columns.now 256 c.args.counts.now c.requires.1 in
+    let size = ap length c.requires.1 ∙ length-replicate {A = ℕ} 256 0 in
     search rules
 
 pub count_net-requires : goal.count_net-requires
 count_net-requires c =
     let l = c.loop-net in
     let (size, counted) = l.invariant in
-    (size, counts_small c.args.pins.nets.now c.args.pins.columns.now (nets_left l.net-iterator) l.counts counted c.args.pins.few)
+    (size, counts_small c.args.pins.nets.now c.args.pins.columns.now (nets_left l.net-iterator) l.counts counted c.requires.0)
 
 pub loop-net-preserved : goal.loop-net-preserved
 loop-net-preserved c =

@@ -1,27 +1,27 @@
--- `encode::put_number` meets its contract: the lowest n of the number's eight bytes.
--- Assumes nothing.
-use Rattle.std.proofs.Common.{◌≡◌, ℕ, zero, suc, ◌/◌, ◌%◌, ◌^◌, ◌≤◌, List, ◌∷◌, take, refl, ap, ap₂, ◌∙◌, sym, arith}
-use Rattle.std.proofs.Math.Nat.{div-div-eq-div-mul, pow-suc}
-use Rattle.std.specs.Int.{byte_at, bytes_low_first}
+use Rattle.std.proofs.Common.{◌≡◌, ◌+◌, ℕ, zero, suc, ◌-◌, ◌/◌, ◌%◌, ◌<◌, List, [], ◌∷◌, ◌∙◌, arith}
+use Rattle.std.proofs.Math.Numerals.{unary_clauses}
+use Rattle.text.specs.Writing.{Wrote}
 use Rattle.encode.specs.Encode.{bytes}
-use Rattle.text.proofs.Writes.{same_written}
+use Rattle.encode.proofs.Left.{Left, less-left}
+use Rattle.encode.proofs.Lengths.{length-bytes}
 use Rattle.encode.proofs.put_number.Goals as goal
 
-byte : (i v : ℕ) → byte_at i v ≡ v / 256 ^ i % 256
-byte zero v = omega arith
-byte (suc i) v = refl
+-- a turn
+next-left :
+    {old all mid new : List ℕ} {at end end' : ℕ} (k n : ℕ) → 0 < k → Left old at all mid end (bytes k n)
+    → Wrote mid end (n % 256 ∷ []) new end' → Left old at all new end' (bytes (k - 1) (n / 256))
+next-left zero n some left w = absurd (omega arith)
+next-left (suc k) n some left w = simp unary_clauses (less-left left w)
 
--- n bytes of v, from byte i upward, are the lowest n of what is left of v there
-from : (i k n v : ℕ) → n ≤ k → take n (bytes_low_first i k v) ≡ bytes n (v / 256 ^ i)
-from i k zero v h = refl
-from i zero (suc n) v h = absurd (omega arith)
-from i (suc k) (suc n) v h =
-    ap₂ (λ (b : ℕ) (bs : List ℕ). b ∷ bs) (byte i v)
-    (from (suc i) k n v (omega arith) ∙ ap (bytes n) (ap (λ (d : ℕ). v / d) (pow-suc 256 i) ∙ sym (div-div-eq-div-mul v (256 ^ i) 256)))
-
-pub returns : goal.returns
-returns c =
+pub put_byte-requires : goal.put_byte-requires
+put_byte-requires c =
     let a = c.args in
-    let whole : a.value / 1 ≡ a.value = omega arith in
-    let lowest = ap (take a.n) c.to_le_bytes.ensures ∙ from 0 8 a.n a.value c.requires.0 ∙ ap (bytes a.n) whole in
-    same_written lowest c.put_text.ensures
+    let l = c.loop-i in
+    omega (arith, l.invariant.0.place, l.invariant.0.size, length-bytes (a.n - l.i) l.rest, length-bytes a.n a.value)
+
+pub loop-i-preserved : goal.loop-i-preserved
+loop-i-preserved c =
+    let l = c.loop-i in
+    let n = c.args.n in
+    let e : n - l.i - 1 ≡ n - (l.i + 1) = omega arith in
+    (rw e at (next-left (n - l.i) l.rest (omega arith) l.invariant.0 c.put_byte.ensures.wrote), c.put_byte.ensures.buffer ∙ l.invariant.1)

@@ -25,7 +25,7 @@ route_keys-requires c =
     let pins = c.args.pins in
     let now = c.deref.ensures.0 in
     let (_, few) = keys_count c.args.l (pins_in pins) pins.nets.now _ c.order_nets.ensures.keys in
-    (omega (arith, ap (λ (ks : List ℕ). length ks) now, few, c.args.pins.few), rw now c.order_nets.ensures.start)
+    (omega (arith, ap (λ (ks : List ℕ). length ks) now, few, c.requires.1), rw now c.order_nets.ensures.start)
 
 pub returns : goal.returns
 returns c =
