@@ -12,7 +12,8 @@ pub struct Ends {
     pub right: u8,
 }
 
-// The pins of a column list: the net and the column of each.
+// The pins of a column list: the net and the column of each. That they are at most 128 is asked where it is needed, as `ends_of` takes any
+// number.
 #[derive(Clone, Copy)]
 pub struct PinList<'a> {
     pub nets: &'a [u16],
