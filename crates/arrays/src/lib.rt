@@ -67,7 +67,7 @@ impl RuleTable {
 }
 
 // The loads of a column with a top pin only, a bottom pin only, and both.
-#[derive(Clone, Copy)]
+#[derive(Clone, Copy, Default)]
 pub struct Loads {
     pub top: u8,
     pub bottom: u8,

@@ -73,11 +73,7 @@ pub fn loads_at(places: &[NetPlaces], c: Cut) -> Loads
     requires { length places.now ≤ 255 }
     ensures { result ≡ loads_at places.now c }
 {
-    let mut l = Loads {
-        top: 0,
-        bottom: 0,
-        both: 0,
-    };
+    let mut l = Loads::default();
     for s in places {
         l = with_net(c, l, *s);
     }

@@ -24,7 +24,8 @@ pub enum Letter {
     Both,
 }
 
-// The letter of a number; any number but 1 to 3 places nothing.
+// The letter of a number; any number but 1 to 3 places nothing. No call here holds a number: it is for callers that do, which need not
+// test theirs.
 impl From<u8> for Letter {
     ghost use Rattle.letters.specs.Letters.{SameLetter};
 

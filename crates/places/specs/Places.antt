@@ -1,6 +1,6 @@
 -- The first and last places of a net on each side, and the list of the nets with them.
 -- Assumes nothing.
-use Rattle.std.specs.Prelude.{ℕ, suc, ◌+◌, min, max, ◌≤◌, ◌≡◌, List, [], ◌∷◌, ◌++◌, Bool, true, false, length, eqb}
+use Rattle.std.specs.Prelude.{ℕ, suc, ◌+◌, min, max, ◌≤◌, ◌<◌, ◌≡◌, List, [], ◌∷◌, ◌++◌, Bool, true, false, length, get_or, eqb}
 use Rattle.kind.specs.Kinds.{kind_of, left_start, right_start}
 use Rattle.channel.specs.Density.{distinct}
 use Rattle.places.specs.declared.Ends.{Ends}
@@ -44,3 +44,7 @@ pub record Listed (tops bottoms : List ℕ) (list : List NetPlaces) : Type 0 whe
   pub top : length tops ≤ 64
   pub bottom : length bottoms ≤ 64
   pub places : list ≡ places_list tops bottoms (distinct (tops ++ bottoms))
+
+-- the columns of a side on which each pin has its place, from 1, for its column
+abbrev pub Placed : List ℕ → Type 0
+Placed cs = (k : ℕ) → k < length cs → get_or cs k 0 ≡ k + 1

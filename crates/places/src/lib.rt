@@ -1,12 +1,12 @@
 // The list of the nets of both sides, each once, with its first and last place on each side.
 #![tactic(auto)]
 
-ghost use Rattle.std.specs.Prelude.{◌≡◌, ◌≤◌, length, take, drop};
+ghost use Rattle.std.specs.Prelude.{◌≡◌, take, drop};
 ghost use Rattle.channel.specs.Density.{distinct};
-ghost use Rattle.places.specs.Places.{reached, ends_of, places_of, AsksPlaces, places_list};
+ghost use Rattle.places.specs.Places.{Placed, ends_of, AsksPlaces, places_list};
 
 use arrayvec::ArrayVec;
-use kind::Kind;
+use ends::PinList;
 use nets::Distinct;
 
 // The first and last place of a net on one side, from 1. A net that leaves at the left has first 0, one that leaves at the right last 255;
@@ -25,44 +25,25 @@ pub struct NetPlaces {
     pub bottom: Ends,
 }
 
-// The ends of a net with a pin more at a place, if that pin is the net's.
-fn reach(same: bool, e: Ends, place: u16) -> Ends
-    ensures { result ≡ reached same e place }
+// The ends of a net on one side, of which each pin has its place for its column.
+fn ends_of(side: PinList, net: u16) -> Ends
+    requires { Placed side.columns.now }
+    ensures { result ≡ ends_of side.entry.nets.now net }
 {
-    if same {
-        Ends {
-            first: e.first.min(place),
-            last: e.last.max(place),
-        }
-    } else {
-        e
+    let ends = side.ends_of(net);
+    Ends {
+        first: u16::from(ends.left),
+        last: u16::from(ends.right),
     }
 }
 
-// The ends of a net on one side.
-fn ends_of(ns: &[u16], net: u16) -> Ends
-    requires { length ns.now ≤ 64 }
-    ensures { result ≡ ends_of ns.now net }
+// The places of a side, from 1.
+fn number(columns: &mut [u8; 64])
+    ensures { Placed columns.new }
 {
-    let kind = Kind::from(net);
-    let mut e = Ends {
-        first: kind.left_start() as u16,
-        last: kind.right_start() as u16,
-    };
-    for (i, n) in ns.iter().enumerate() {
-        e = reach(*n == net, e, i as u16 + 1);
+    for (i, column) in columns.iter_mut().enumerate() {
+        *column = i as u8 + 1;
     }
-    e
-}
-
-// A net with its ends on the two sides.
-fn places_of(tops: &[u16], bottoms: &[u16], net: u16) -> NetPlaces
-    requires { (length tops.now ≤ 64) × (length bottoms.now ≤ 64) }
-    ensures { result ≡ places_of tops.now bottoms.now net }
-{
-    let top = ends_of(tops, net);
-    let bottom = ends_of(bottoms, net);
-    NetPlaces { net, top, bottom }
 }
 
 // The places of all nets, each once.
@@ -70,9 +51,21 @@ pub fn list_places(nets: &[u16], p: usize) -> ArrayVec<NetPlaces, 128>
     requires { AsksPlaces nets.now p }
     ensures { result.items ≡ places_list (take p nets.now) (drop p nets.now) (distinct nets.now) }
 {
+    let mut columns = [0; 64];
+    number(&mut columns);
+    let tops = PinList {
+        nets: &nets[..p],
+        columns: &columns[..p],
+    };
+    let bottoms = PinList {
+        nets: &nets[p..],
+        columns: &columns[..nets.len() - p],
+    };
     let mut places = ArrayVec::new();
     for net in (Distinct { left: nets }) {
-        places.push(places_of(&nets[..p], &nets[p..], net));
+        let top = ends_of(tops, net);
+        let bottom = ends_of(bottoms, net);
+        places.push(NetPlaces { net, top, bottom });
     }
     places
 }

@@ -19,7 +19,8 @@ pub fn steps(w: u64, by: u64) -> u64
     closed(w, by, least)
 }
 
-// The same where `by` ends: most often it is a run from `least` on.
+// The same where `by` ends: most often it is a run from `least` on. The two sets stay two parameters: a type of both would be made in
+// `steps` and taken apart again here and below.
 fn closed(w: u64, by: u64, least: usize) -> u64
     ensures { (n : ℕ) → n < 64 → bit_of result n ≡ stepped w by n }
 {

@@ -5,6 +5,9 @@ ghost use Rattle.table.specs.Planes.{Measures, Earlier, Filled, AsksTable, base_
 use cells::write_word;
 use entry::{Filling, Place, Row};
 
+// The cells and what fills them stay two parameters: of a type that held both, each function would have to say too that the cells are still
+// the caller's and that what fills them is the same.
+
 // Fills the plane of (i, j), whose cells start at `at`.
 fn fill_plane(work: &mut [u16], filling: Filling, i: usize, j: usize, at: usize)
     requires { let f = filling in

@@ -7,7 +7,9 @@ use Rattle.cut.proofs.loads_at.Goals as goal
 
 pub loop-s-init : goal.loop-s-init
 unfolding loads_at
-loop-s-init c = record { small = record { top = omega arith; bottom = omega arith; both = omega arith }; same = refl }
+loop-s-init c =
+    let (t, (b, o)) = c.default-l.ensures in
+    rw (t, b, o) (record { small = record { top = omega arith; bottom = omega arith; both = omega arith }; same = refl })
 
 pub loop-s-preserved : goal.loop-s-preserved
 loop-s-preserved c =

@@ -3,8 +3,8 @@
 use Rattle.std.proofs.Common.{ℕ, suc, ◌-◌, ◌≡◌, Bool, ◌&&◌, ap, arith, tests}
 use Rattle.channel.specs.Below.{any_below}
 use Rattle.channel.proofs.Below.{any_below_cong}
+use Rattle.arrays.specs.Rules.{range_at}
 use Rattle.bits.specs.Bits.{bit_of}
-use Rattle.bits.proofs.Laws.{bit_zero}
 use Rattle.steps.specs.Stepped.{stepped}
 use Rattle.entry.proofs.Row.pair.Goals as goal
 
@@ -17,8 +17,6 @@ stepped-from w by f y same = any_below_cong (suc y) _ _ (λ m l. ap (λ (t : Boo
 pub returns : goal.returns
 returns c =
     λ y h.
-    rw (← c.range.ensures, ← c.range-2.ensures, ← stepped-from c.rows-found.result c.range-2.result _ y c.rows-found.ensures)
+    let f = c.args.self.filling in
+    rw (← stepped-from c.top_steps-found.result (range_at f.rules.now.words 1 c.args.self.place.j) _ y c.top_steps-found.ensures)
     (grind (arith, tests))
-
-pub returns-then-f-at : goal.returns-then-f-at
-returns-then-f-at c = λ y h. grind (arith, tests, bit_zero)
