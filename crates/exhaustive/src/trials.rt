@@ -22,6 +22,13 @@ pub struct Case {
     pub shown: bool,
 }
 
+// What all sheets share: where differences are written, and the cells for work.
+#[derive(Drop)]
+pub struct Shared<'a, W> {
+    pub out: &'a mut W,
+    pub work: &'a mut [u16],
+}
+
 // What a call is lent: the sheet's bytes, so many bytes for columns and so many cells for work.
 #[derive(Clone, Copy)]
 struct Lent<'a> {
@@ -82,15 +89,14 @@ impl Case {
     // One call on the sheet.
     fn call_agrees<W: Write>(
         &self,
-        out: &mut W,
+        shared: &mut Shared<W>,
         lent: Lent,
         expected: Expected,
-        work: &mut [u16],
     ) -> io::Result<bool> {
         // the columns of eight terminals, and four to spare
         let mut room = [0; 12];
         let columns = first(&mut room, lent.bytes);
-        let cells = first(work, lent.cells);
+        let cells = first(shared.work, lent.cells);
         buffers::mark(columns);
         buffers::mark(cells);
         let given = search::search(lent.sheet, columns, cells).map(usize::from);
@@ -100,15 +106,15 @@ impl Case {
         // both outcomes; where they are alike, a buffer is not left as it must be
         if !good && self.shown {
             let wanted = Found(expected.answer, expected.written);
-            writeln!(out, "sheet {}, exhaustive: {wanted}", self.n)?;
-            writeln!(out, "  search: {}", Found(given, columns))?;
+            writeln!(shared.out, "sheet {}, exhaustive: {wanted}", self.n)?;
+            writeln!(shared.out, "  search: {}", Found(given, columns))?;
         }
         Ok(good)
     }
 
     // The refusals: a sheet cut by a byte, a work buffer that is one too short, and that with a column buffer that is
     // one too short, if there are columns.
-    fn refusals_agree<W: Write>(&self, out: &mut W, work: &mut [u16]) -> io::Result<bool> {
+    fn refusals_agree<W: Write>(&self, shared: &mut Shared<W>) -> io::Result<bool> {
         let lent = self.lent();
         let cut = Lent {
             sheet: but_last(lent.sheet),
@@ -128,14 +134,14 @@ impl Case {
             SearchRefusal::Columns
         };
         let mark = SearchRefusal::Sheet(self.cut_refusal());
-        let a = self.call_agrees(out, cut, nothing(mark), work)?;
-        let b = self.call_agrees(out, few, nothing(SearchRefusal::Cells), work)?;
-        let c = self.call_agrees(out, fewer, nothing(both), work)?;
+        let a = self.call_agrees(shared, cut, nothing(mark))?;
+        let b = self.call_agrees(shared, few, nothing(SearchRefusal::Cells))?;
+        let c = self.call_agrees(shared, fewer, nothing(both))?;
         Ok(a && b && c)
     }
 
     // The answer, in buffers of the needed length or a little longer.
-    fn answers_agree<W: Write>(&self, out: &mut W, work: &mut [u16]) -> io::Result<bool> {
+    fn answers_agree<W: Write>(&self, shared: &mut Shared<W>) -> io::Result<bool> {
         let lent = self.lent();
         let spare = draw(self.n, 30, 0, 0..=4) as usize;
         let longer = Lent {
@@ -154,17 +160,12 @@ impl Case {
                 ..nothing(SearchRefusal::NoAssignment)
             },
         };
-        self.call_agrees(out, longer, expected, work)
+        self.call_agrees(shared, longer, expected)
     }
 }
 
 // Every call on the sheet.
-pub fn try_sheet<W: Write>(
-    out: &mut W,
-    n: u64,
-    work: &mut [u16],
-    shown: bool,
-) -> io::Result<Tally> {
+pub fn try_sheet<W: Write>(shared: &mut Shared<W>, n: u64, shown: bool) -> io::Result<Tally> {
     let plan = drawn::plan_of(n);
     let sheet = drawn::sheet_of(n, plan);
     let mut page = Page::new();
@@ -177,9 +178,9 @@ pub fn try_sheet<W: Write>(
         best,
         shown,
     };
-    let refusals = case.refusals_agree(out, work)?;
-    let answers = case.answers_agree(out, work)?;
-    let lists = measures::measure_all(out, &case)?;
+    let refusals = case.refusals_agree(shared)?;
+    let answers = case.answers_agree(shared)?;
+    let lists = measures::measure_all(shared.out, &case)?;
     let mut nets = sheet
         .terminals()
         .iter()

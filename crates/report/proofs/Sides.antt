@@ -1,18 +1,22 @@
 -- The lines of a sheet: none of a refused one, and of a sound one those of its two sides, one behind the other.
 -- Assumes nothing.
-use Rattle.std.proofs.Common.{◌≡◌, ℕ, ◌+◌, ◌-◌, ◌≤◌, List, [], ◌++◌, length, take, drop, Ok, Err, sym, refl, ap, ◌∙◌, arith, length-take-le, take-add}
-use Rattle.channel.specs.Sheet.{Sheet}
+use Rattle.std.proofs.Common.{◌≡◌, ℕ, ◌≤◌, List, [], ◌++◌, ◌-◌, length, take, drop, Ok, Err, sym, refl, ap, ◌∙◌, arith, length-take-le, length-drop, take_all}
+use Rattle.std.proofs.lemmas.List.{take-append-drop}
+use Rattle.std.specs.Borrow.{Bor}
+use Rattle.channel.specs.Sheet.{Terminal, sheet_with}
 use Rattle.refusals.specs.declared.Refusal.{Refusal}
 use Rattle.channel.specs.declared.Side.TheVariants.{Top, Bottom}
 use Rattle.soundness.specs.Read.{Read, sheet_of, read}
 use Rattle.soundness.specs.Read.Read.{sound, refused}
 use Rattle.soundness.proofs.Laws.{read_checked}
 use Rattle.sheet.specs.declared.Layout.{Layout}
+use Rattle.sheet.specs.declared.Sections.{Sections}
 use Rattle.sheet.specs.declared.Shape.{Shape}
-use Rattle.format.specs.Parts.{bytes_of, terminals_in}
+use Rattle.format.specs.Parts.{terminals_in}
 use Rattle.sheet.specs.Parts.{shape_of, opened_of}
-use Rattle.cursor.specs.Visits.{visits}
-use Rattle.sheet.proofs.Laws.{opened_refused, shape-read, Opens, opens}
+use Rattle.sheet.specs.Sections.{Held, sheet_held}
+use Rattle.cursor.specs.Visits.{visits, all_visits}
+use Rattle.sheet.proofs.Laws.{opened_refused, shape-read, Opens, opens, held_sheet, held_shape}
 use Rattle.cursor.proofs.Laws.{visits_of_lem, length-visits}
 use Rattle.lines.specs.Text.{lines}
 use Rattle.lines.proofs.Laws.{lines-append}
@@ -37,35 +41,31 @@ opened_shape b layout opening =
     let laws = opens b layout opening in
     laws.shape ∙ sym (shape-read b (sheet_of b) laws.reads)
 
--- and the lines of its two parts
-module _ (b : List ℕ) (layout : Layout) (opening : opened_of b ≡ Ok layout) (columns : List ℕ)
-    (enough : layout.shape.pins ≤ length columns)
-  where
-    abbrev n : Shape
-    n = layout.shape
+-- its pins are at least those of its top side, and its sections make its lines
+module _ (s : Bor (List ℕ)) (layout : Layout) (opening : opened_of s.now ≡ Ok layout) (m : Sections) (held : Held s layout m) where
+  laws : Opens s.now layout
+  laws = opens s.now layout opening
 
-    laws : Opens b layout
-    laws = opens b layout opening
+  pub tops : m.shape.top ≡ length (terminals_in m.top.now)
+  tops = ap (λ (k : Shape). k.top) (held_shape s layout laws m held)
 
-    p-count : n.top ≡ length (sheet_of b).top
-    p-count = ap (λ (k : Shape). k.top) laws.shape
+  pub tops-few : m.shape.top ≤ layout.shape.pins
+  tops-few =
+      omega (arith, ap (λ (k : Shape). k.top) held.shape, ap (λ (k : Shape). k.top) laws.shape, ap (λ (k : Shape). k.pins) laws.shape)
 
-    pub pins-count : n.top ≤ n.pins
-    pins-count = omega (arith, p-count, ap (λ (k : Shape). k.pins) laws.shape)
+  pub held_visits : all_visits (sheet_held m) ≡ visits_of s.now
+  unfolding visits_of
+  held_visits = rw (held_sheet s layout laws m held, laws.reads)
 
-    pub side-lines :
-        (tops bottoms : List ℕ) → tops ≡ bytes_of b layout.top → bottoms ≡ bytes_of b layout.bottom
-        → lines (visits Top 1 (terminals_in tops)) (take n.top columns)
-        ++ lines (visits Bottom 1 (terminals_in bottoms)) (take (n.pins - n.top) (drop n.top columns))
-        ≡ lines (visits_of b) (take n.pins columns)
-    unfolding visits_of
-    side-lines tops bottoms first second =
-        let s : Sheet = sheet_of b in
-        let few : n.top ≤ length columns = omega (arith, pins-count) in
-        let whole : n.top + (n.pins - n.top) ≡ n.pins = omega (arith, pins-count) in
-        rw (ap terminals_in first ∙ laws.top, ap terminals_in second ∙ laws.bottom, laws.reads, visits_of_lem s)
-        (sym
-        (lines-append (visits Top 1 s.top) (visits Bottom 1 s.bottom) (take n.top columns) _
-        (length-visits Top 1 s.top ∙ sym p-count ∙ sym (length-take-le n.top columns few)))
-        ∙ ap (lines (visits Top 1 s.top ++ visits Bottom 1 s.bottom))
-        (sym (take-add n.top (n.pins - n.top) columns) ∙ ap (λ (k : ℕ). take k columns) whole))
+-- the lines of two sides, one behind the other, each with its columns
+pub side-lines :
+    (ts us : List Terminal) (l p : ℕ) (columns : List ℕ) → p ≡ length ts → p ≤ length columns
+    → lines (visits Top 1 ts) (take p columns) ++ lines (visits Bottom 1 us) (take (length columns - p) (drop p columns))
+    ≡ lines (all_visits (sheet_with l ts us)) columns
+side-lines ts us l p columns size enough =
+    let whole : length (drop p columns) ≤ length columns - p = rw length-drop (omega arith) in
+    rw (visits_of_lem (sheet_with l ts us), take_all (length columns - p) (drop p columns) whole)
+    (sym
+    (lines-append (visits Top 1 ts) (visits Bottom 1 us) (take p columns) (drop p columns)
+    (length-visits Top 1 ts ∙ sym size ∙ sym (length-take-le p columns enough)))
+    ∙ ap (lines (visits Top 1 ts ++ visits Bottom 1 us)) (take-append-drop p columns))

@@ -2,7 +2,10 @@
 #![tactic(auto)]
 
 ghost use Rattle.std.specs.Prelude.{◌≡◌, ◌+◌, ◌*◌, ◌≤◌, length, take};
-ghost use Rattle.sheet.specs.Parts.{shape_of, opened_of};
+ghost use Rattle.format.specs.Parts.{terminals_in};
+ghost use Rattle.sheet.specs.Parts.{shape_of};
+ghost use Rattle.sheet.specs.Sections.{sheet_held};
+ghost use Rattle.cursor.specs.Visits.{all_visits};
 ghost use Rattle.text.specs.Writing.{HasRoom, Writes};
 ghost use Rattle.report.specs.Printed.{refusal, headed, printed, Prints};
 ghost use Rattle.lines.specs.Text.{lines};
@@ -11,7 +14,7 @@ ghost use Rattle.report.specs.Writing.{visits_of};
 use format::Side;
 use lines::{DIGITS, put_side};
 use refusals::Reason;
-use sheet::Layout;
+use sheet::Sections;
 use text::Writer;
 
 // Room for every text: the line of the density, and 128 lines of at most 28 bytes.
@@ -66,21 +69,19 @@ fn put_result(out: &mut Writer, input: &[u8], density: u8, columns: &[u8])
     out.put_field(b"density ", density as usize, DIGITS);
     out.put_byte(b'\n');
     match sheet::open(input) {
-        Ok(layout) => put_sides(out, input, layout, columns),
+        Ok(layout) => put_sides(out, layout.sections(input), &columns[..layout.shape.pins]),
         Err(_) => {}
     }
 }
 
-// A line for each terminal of a sheet that opened with this layout, top then bottom.
-fn put_sides(out: &mut Writer, input: &[u8], layout: Layout, columns: &[u8])
-    requires { (opened_of input.now ≡ Ok layout) × (layout.shape.pins ≤ length columns.now)
+// A line for each terminal of a sheet's sections, top then bottom.
+fn put_sides(out: &mut Writer, sections: Sections, columns: &[u8])
+    requires { (sections.shape.top ≡ length (terminals_in sections.top.now)) × (sections.shape.top ≤ length columns.now)
         × HasRoom out.old (28 * length columns.now) }
-    ensures wrote { Writes out.old out.new (lines (visits_of input.now) (take layout.shape.pins columns.now)) }
+    ensures wrote { Writes out.old out.new (lines (all_visits (sheet_held sections.entry)) columns.now) }
     ensures upper_bound { out.new.end ≤ out.old.end + 28 * length columns.now }
 {
-    let p = layout.shape.top;
-    let pins = layout.shape.pins;
-    let sections = layout.sections(input);
+    let p = sections.shape.top;
     put_side(out, Side::Top, sections.top, &columns[..p]);
-    put_side(out, Side::Bottom, sections.bottom, &columns[p..pins]);
+    put_side(out, Side::Bottom, sections.bottom, &columns[p..]);
 }
