@@ -1,27 +1,16 @@
 -- Laws of a number in bytes.
 -- Assumes nothing.
-use Rattle.std.proofs.Common.{◌≡◌, ℕ, zero, suc, ◌+◌, ◌-◌, ◌*◌, ◌^◌, ◌<◌, ◌≤◌, List, [], ◌∷◌, ◌++◌, length, get_or, take, drop, refl, sym, ap, ◌∙◌, fold, add-zero, zero-add, add-one, one-add, arith, pow-add, length-take, length-drop}
+use Rattle.std.proofs.Common.{◌≡◌, ℕ, zero, suc, ◌+◌, ◌-◌, ◌*◌, ◌^◌, ◌<◌, ◌≤◌, List, [], ◌∷◌, ◌++◌, length, get_or, take, drop, refl, sym, ap, ◌∙◌, fold, zero-add, add-one, one-add, arith, pow-add, length-take, length-drop}
 use Rattle.std.specs.Prelude.{reverse}
 use Rattle.std.proofs.lemmas.List.{get_or-take, get_or-drop, get_or-reverse, reverse-append, length-reverse}
 use Rattle.std.proofs.Math.Arith.{digits_lt}
 use Rattle.std.proofs.lemmas.List.Sums.{fold-append, fold_more}
 use Rattle.little.specs.Little.{little}
+use Rattle.little.proofs.Laws.{same-bytes}
 
 -- a byte more at the low end
 abbrev pub shifted : ℕ → ℕ → ℕ
 shifted value byte = value * 256 + byte
-
--- a number is told by its bytes
-pub same-bytes : (n : ℕ) (a b : List ℕ) (i k : ℕ) → ((j : ℕ) → j < n → get_or a (i + j) 0 ≡ get_or b (k + j) 0) → little n a i ≡ little n b k
-unfolding little
-same-bytes zero a b i k h = refl
-same-bytes (suc n) a b i k h =
-    let first = rw (add-zero i, add-zero k) at (h 0 (omega arith)) in
-    let rest = same-bytes n a b (suc i) (suc k) (λ j l. rw (next i j, next k j) at (h (suc j) (omega (arith, l)))) in
-    omega (arith, first, rest)
-  where
-    next : (i j : ℕ) → i + suc j ≡ suc i + j
-    next i j = omega arith
 
 -- the n bytes cut out of a list from a place on
 abbrev pub part : ℕ → ℕ → List ℕ → List ℕ
