@@ -1,38 +1,67 @@
 -- Laws of a number in bytes.
 -- Assumes nothing.
-use Rattle.std.proofs.Common.{◌≡◌, ℕ, suc, ◌+◌, ◌-◌, ◌*◌, ◌^◌, ◌<◌, ◌≤◌, List, get_or, refl, ap, ◌∙◌, lt_of_lt_of_le, mul_comm, add_comm, arith, pow_mono, pow-add}
+use Rattle.std.proofs.Common.{◌≡◌, ℕ, zero, suc, ◌+◌, ◌-◌, ◌*◌, ◌^◌, ◌<◌, ◌≤◌, List, [], ◌∷◌, ◌++◌, length, get_or, take, drop, refl, sym, ap, ◌∙◌, fold, zero-add, add-one, one-add, arith, pow-add, length-take, length-drop}
+use Rattle.std.specs.Prelude.{reverse}
+use Rattle.std.proofs.lemmas.List.{get_or-take, get_or-drop, get_or-reverse, reverse-append, length-reverse}
 use Rattle.std.proofs.Math.Arith.{digits_lt}
-use Rattle.std.proofs.Math.Nat.{sub_self}
+use Rattle.std.proofs.lemmas.List.Sums.{fold-append, fold_more}
 use Rattle.little.specs.Little.{little}
+use Rattle.little.proofs.Laws.{same-bytes}
 
--- one byte more at the front
-little-suc : (n : ℕ) (b : List ℕ) (i : ℕ) → little (suc n) b i ≡ get_or b i 0 + 256 * little n b (suc i)
+-- a byte more at the low end
+abbrev pub shifted : ℕ → ℕ → ℕ
+shifted value byte = value * 256 + byte
+
+-- the n bytes cut out of a list from a place on
+abbrev pub part : ℕ → ℕ → List ℕ → List ℕ
+part n at b = take n (drop at b)
+
+pub length-part : (n at : ℕ) (b : List ℕ) → at + n ≤ length b → length (part n at b) ≡ n
+length-part n at b h = length-take n (drop at b) ∙ omega (arith, length-drop at b)
+
+get_or-part : (n at : ℕ) (b : List ℕ) (j : ℕ) → j < n → get_or (part n at b) j 0 ≡ get_or b (at + j) 0
+get_or-part n at b j h = get_or-take n (drop at b) j 0 h ∙ get_or-drop at b j 0
+
+pub little-part : (n at : ℕ) (b : List ℕ) → little n (part n at b) 0 ≡ little n b at
+little-part n at b = same-bytes n (part n at b) b 0 at (λ j h. rw (zero-add j) (get_or-part n at b j h))
+
+-- all bytes of a list, from the last to the first
+pub last_to_first : (xs : List ℕ) → fold shifted 0 (reverse xs) ≡ little (length xs) xs 0
 unfolding little
-little-suc n b i = refl
+last_to_first [] = refl
+last_to_first (x ∷ xs) =
+    let rest : little (length xs) (x ∷ xs) 1 ≡ little (length xs) xs 0
+    = same-bytes (length xs) (x ∷ xs) xs 1 0 (λ j l. rw (zero-add j, one-add j)) in
+    ap (fold shifted 0) (reverse-append (x ∷ []) xs) ∙ fold-append shifted 0 (reverse xs) (x ∷ [])
+    ∙ omega (arith, rest, last_to_first xs)
 
--- no byte is taken yet
-pub little-none : (n : ℕ) (b : List ℕ) (i : ℕ) → 0 ≡ little (n - n) b i
-unfolding little
-little-none n b i = rw sub_self
+-- one byte more is taken
+pub shifted-push : (xs : List ℕ) (x : ℕ) {value next : ℕ} → value ≡ fold shifted 0 xs → next ≡ shifted value x → next ≡ fold shifted 0 (xs ++ (x ∷ []))
+shifted-push xs x e f = f ∙ ap (λ (v : ℕ). shifted v x) e ∙ sym (fold-append shifted 0 xs (x ∷ []))
 
--- a number read from its last byte: k bytes are left, and one of them is taken
-pub little_down : (n k : ℕ) (b : List ℕ) (i : ℕ) → 0 < k → k ≤ n
-    → little (n - k) b (i + k) * 256 + get_or b (i + (k - 1)) 0 ≡ little (n - (k - 1)) b (i + (k - 1))
-little_down n k b i h g =
-    rw (more, little-suc, next) (add_comm _ _ ∙ ap (λ (v : ℕ). get_or b (i + (k - 1)) 0 + v) (mul_comm _ 256))
+-- k of the n bytes from a place on, taken from the last, make a number below 2 to the number of their bits
+pub shifted-below :
+    (b : List ℕ) → ((i : ℕ) → get_or b i 0 < 256) → (n at : ℕ) → at + n ≤ length b → (k : ℕ) → k ≤ n
+    → fold shifted 0 (take k (reverse (part n at b))) < 2 ^ (8 * k)
+shifted-below b below n at inside zero h = omega arith
+shifted-below b below n at inside (suc k) h =
+    rw (more, place, bits, pow-add 2 (8 * k) 8) (digits_lt (shifted-below b below n at inside k (omega arith)) (below (at + (n - 1 - k))))
   where
-    more : n - (k - 1) ≡ suc (n - k)
-    more = omega arith
+    bytes : List ℕ
+    bytes = part n at b
 
-    next : suc (i + (k - 1)) ≡ i + k
-    next = omega arith
+    size : length bytes ≡ n
+    size = length-part n at b inside
 
--- a byte more is eight bits more
-pub byte_more : (n k : ℕ) {v x : ℕ} → 0 < k → k ≤ n → v < 2 ^ (8 * (n - k)) → x < 256 → v * 256 + x < 2 ^ (8 * (n - (k - 1)))
-byte_more n k h g hv hx = rw (more, pow-add 2) (digits_lt hv hx)
-  where
-    more : 8 * (n - (k - 1)) ≡ 8 * (n - k) + 8
-    more = omega arith
+    more : fold shifted 0 (take (suc k) (reverse bytes)) ≡ shifted (fold shifted 0 (take k (reverse bytes))) (get_or (reverse bytes) k 0)
+    more =
+        ap (λ (j : ℕ). fold shifted 0 (take j (reverse bytes))) (sym (add-one k))
+        ∙ fold_more shifted 0 (reverse bytes) k 0 (omega (arith, length-reverse bytes, size))
 
-pub byte_fits : (n k : ℕ) {v x : ℕ} → 0 < k → k ≤ n → n ≤ 8 → v < 2 ^ (8 * (n - k)) → x < 256 → v * 256 + x < 2 ^ 64
-byte_fits n k h g e hv hx = lt_of_lt_of_le (byte_more n k h g hv hx) (pow_mono {j = 64} (omega arith))
+    place : get_or (reverse bytes) k 0 ≡ get_or b (at + (n - 1 - k)) 0
+    place =
+        get_or-reverse bytes k 0 (omega (arith, size)) ∙ ap (λ (m : ℕ). get_or bytes (m - 1 - k) 0) size
+        ∙ get_or-part n at b (n - 1 - k) (omega arith)
+
+    bits : 8 * suc k ≡ 8 * k + 8
+    bits = omega arith

@@ -9,9 +9,8 @@ pub fn read_number(s: &[u8], at: usize, n: usize) -> u64
     requires { (at + n ≤ length s.now) × (n ≤ 8) }
     ensures { (result ≡ little n s.now at) × (result < 2 ^ (8 * n)) }
 {
-    let mut value: u64 = 0;
-    for i in (0..n).rev() {
-        value = value * 256 + s[at + i] as u64;
-    }
-    value
+    s[at..at + n]
+        .iter()
+        .rev()
+        .fold(0, |value, byte| value * 256 + u64::from(*byte))
 }

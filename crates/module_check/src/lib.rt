@@ -89,7 +89,6 @@ pub fn check_modules(side: &[u8], columns: usize) -> Tests
     requires { columns ≤ 64 }
     ensures { (result ≡ tests_of columns (modules_in side.now)) × (result.pins ≤ length side.now) }
 {
-    let mut count = 0usize;
     let mut all = Tests {
         pins: 0,
         valid: true,
@@ -98,12 +97,9 @@ pub fn check_modules(side: &[u8], columns: usize) -> Tests
     };
     for m in Modules::new(side) {
         all = combine(all, check_module(m, columns));
-        count += 1;
     }
     Tests {
-        pins: all.pins,
-        valid: all.valid & (count <= 16),
-        within: all.within,
-        named: all.named,
+        valid: all.valid & (Modules::new(side).count() <= 16),
+        ..all
     }
 }

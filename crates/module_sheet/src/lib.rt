@@ -43,22 +43,32 @@ fn answer(all: Tests, p: usize, q: usize, room: usize) -> Made
     Ok(size)
 }
 
-// Writes the sheet: the top section with its p records, the bottom section with its q, the trailer.
-fn put_sheet(out: &mut [u8], columns: usize, top: &[u8], p: usize, bottom: &[u8], q: usize) -> usize
-    requires { AllWritable (modules_in top.now) × AllWritable (modules_in bottom.now)
-        × (p ≡ pin_count (modules_in top.now)) × (q ≡ pin_count (modules_in bottom.now)) × (p ≤ 64)
-        × (sheet_size p q ≤ length out.old) }
+// A side of modules and the number of its pins.
+#[derive(Clone, Copy)]
+struct CountedSide<'a> {
+    bytes: &'a [u8],
+    pins: usize,
+    ghost counted: { pins ≡ pin_count (modules_in bytes.now) },
+}
+
+// Writes the sheet: the top section, the bottom section, the trailer.
+fn put_sheet(out: &mut [u8], columns: usize, top: CountedSide, bottom: CountedSide) -> usize
+    requires { AllWritable (modules_in top.bytes.now) × AllWritable (modules_in bottom.bytes.now)
+        × (top.pins ≤ 64) × (sheet_size top.pins bottom.pins ≤ length out.old) }
     ensures { Wrote out.old 0
-        (sheet_bytes CP (module_sheet columns (modules_in top.now) (modules_in bottom.now))) out.new result }
+        (sheet_bytes CP (module_sheet columns (modules_in top.entry.bytes.now) (modules_in bottom.entry.bytes.now))) out.new result }
 {
     let mut writer = Writer { out, end: 0 };
-    put_modules(&mut writer, top);
-    put_modules(&mut writer, bottom);
+    put_modules(&mut writer, top.bytes);
+    put_modules(&mut writer, bottom.bytes);
     let t = Trailer {
-        top: Part { at: 0, count: p },
+        top: Part {
+            at: 0,
+            count: top.pins,
+        },
         bottom: Part {
-            at: RECORD * p,
-            count: q,
+            at: RECORD * top.pins,
+            count: bottom.pins,
         },
         columns,
     };
@@ -79,9 +89,15 @@ pub fn make(columns: usize, top: &[u8], bottom: &[u8], sheet: &mut [u8]) -> Made
     }
     let over = check_modules(top, columns);
     let under = check_modules(bottom, columns);
-    let p = over.pins;
-    let q = under.pins;
-    let size = answer(combine(over, under), p, q, sheet.len())?;
-    put_sheet(sheet, columns, top, p, bottom, q);
+    let size = answer(combine(over, under), over.pins, under.pins, sheet.len())?;
+    let tops = CountedSide {
+        bytes: top,
+        pins: over.pins,
+    };
+    let bottoms = CountedSide {
+        bytes: bottom,
+        pins: under.pins,
+    };
+    put_sheet(sheet, columns, tops, bottoms);
     Ok(size)
 }

@@ -1,3 +1,4 @@
+mod Cut
 pub mod Lists
 pub mod Moved
 pub mod Nets

@@ -2,7 +2,7 @@
 -- Assumes nothing.
 use Rattle.std.proofs.Common.{◌≡◌, ℕ, zero, suc, ◌+◌, ◌-◌, ◌*◌, ◌<◌, ◌≤◌, Bool, true, false, cond, leb, List, [], ◌∷◌, length, refl, ap, arith, le-leb, leb-false, leb-true}
 use Rattle.std.proofs.lemmas.Bool.{lt-leb}
-use Rattle.modules.specs.declared.Head.{Head}
+use Rattle.modules.specs.Bytes.{Head}
 use Rattle.modules.specs.Modules.{Module, pin_count}
 use Rattle.modules.specs.Bytes.{pin_size, end_at, head_at, cut_head, head_in, pins_from, module_of, modules_from, modules_at, modules_in}
 
@@ -27,7 +27,7 @@ pub record Lies (b : List ℕ) (i : ℕ) (h : Head) : Type 0 where
   pub inside : h.end ≤ length b
   pub behind : i < h.end
 
-lies : (b : List ℕ) (i : ℕ) → i < length b → Lies b i (head_in b i)
+pub lies : (b : List ℕ) (i : ℕ) → i < length b → Lies b i (head_in b i)
 unfolding head_in
 lies b i h = by_end (leb (end_at b i) (length b)) refl
   where
@@ -57,7 +57,7 @@ pub modules_end : (b : List ℕ) (i : ℕ) → length b ≤ i → modules_at b i
 unfolding modules_at
 modules_end b i h = let none : length b - i ≡ 0 = omega arith in rw none
 
-modules-more : (b : List ℕ) (i : ℕ) → i < length b → modules_at b i ≡ module_of b (head_in b i) ∷ modules_at b (head_in b i).end
+pub modules-more : (b : List ℕ) (i : ℕ) → i < length b → modules_at b i ≡ module_of b (head_in b i) ∷ modules_at b (head_in b i).end
 unfolding modules_at
 modules-more b i h =
     let some : length b - i ≡ suc (length b - suc i) = omega arith in
@@ -65,12 +65,6 @@ modules-more b i h =
     rw (some, lt-leb (length b) i h)
     (ap (λ (ms : List Module). module_of b (head_in b i) ∷ ms)
     (enough b (length b - suc i) (length b - (head_in b i).end) (head_in b i).end (omega arith) (omega arith)))
-
--- what a loop over a side knows of the head that it has read
-pub head_read :
-    (b : List ℕ) (i : ℕ) (h : Head) → h ≡ head_in b i → i < length b
-    → Lies b i h × (modules_at b i ≡ module_of b h ∷ modules_at b h.end)
-head_read b i h e some = rw e (lies b i some, modules-more b i some)
 
 -- a module takes more bytes than it has pins, so that a side has at most as many of either as bytes
 abbrev Few : List ℕ → ℕ → List Module → Type 0

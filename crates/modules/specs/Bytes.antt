@@ -4,7 +4,6 @@
 use Rattle.std.specs.Prelude.{ℕ, zero, suc, ◌+◌, ◌-◌, ◌*◌, List, [], ◌∷◌, cond, length, get_or, leb}
 use Rattle.little.specs.Little.{little}
 use Rattle.modules.specs.declared.Pin.{Pin}
-use Rattle.modules.specs.declared.Head.{Head}
 use Rattle.modules.specs.Modules.{Module}
 
 abbrev pub head_size : ℕ
@@ -20,6 +19,15 @@ pin_at b i = record { offset = get_or b i 0; net = little 2 b (i + 1) }
 abbrev pub pins_from : List ℕ → ℕ → ℕ → List Pin
 pins_from b i zero = []
 pins_from b i (suc n) = pin_at b i ∷ pins_from b (i + pin_size) n
+
+-- what stands before a module's pins: its width, its set of allowed left edges and the number of its pins; and where the pins start and
+-- the module ends
+pub record Head : Type 0 where
+  pub width : ℕ
+  pub edges : ℕ
+  pub count : ℕ
+  pub start : ℕ
+  pub end : ℕ
 
 -- where a module at i ends by its own number of pins
 abbrev pub end_at : List ℕ → ℕ → ℕ

@@ -2,8 +2,9 @@
 // head or a pin is.
 #![tactic(auto)]
 
-ghost use Rattle.std.specs.Prelude.{◌≡◌, ◌+◌, ◌*◌, ◌≤◌, length};
-ghost use Rattle.modules.specs.Bytes.{pin_size, pin_at, cut_head, head_in, modules_in};
+ghost use Rattle.std.specs.Prelude.{◌≡◌, ◌<◌, length, MatchOption};
+ghost use Rattle.modules.specs.Bytes.{pin_at, end_at, modules_in};
+ghost use Rattle.modules.specs.Left.{IsFirst};
 
 use little::read_number;
 
@@ -14,24 +15,10 @@ pub struct Pin {
     pub net: u16,
 }
 
-// What stands before a module's pins: its width, its set of allowed left edges and the number of its pins; and where the pins start and
-// the module ends.
-#[derive(Clone, Copy)]
-struct Head {
-    width: u8,
-    edges: u64,
-    count: usize,
-    start: usize,
-    end: usize,
-}
-
-// The pins of a module that are still to come.
+// The pins of a module that are still to come: their bytes.
 #[derive(Clone, Copy)]
 pub struct Pins<'a> {
-    side: &'a [u8],
-    at: usize,
-    left: usize,
-    ghost inside: { at + pin_size * left ≤ length side.now },
+    left: &'a [u8],
 }
 
 // A module: its width, its set of allowed left edges and its pins.
@@ -42,11 +29,10 @@ pub struct Module<'a> {
     pub pins: Pins<'a>,
 }
 
-// The modules of a side that are still to come.
+// The modules of a side that are still to come: their bytes.
 #[derive(Clone, Copy)]
 pub struct Modules<'a> {
-    side: &'a [u8],
-    at: usize,
+    left: &'a [u8],
 }
 
 const HEAD: usize = 10;
@@ -60,7 +46,7 @@ impl<'a> Pins<'a> {
     pub fn len(&self) -> usize
         ensures { result ≡ length (pins_left self.now) }
     {
-        self.left
+        self.left.len() / PIN
     }
 }
 
@@ -75,16 +61,9 @@ impl<'a> Iterator for Pins<'a> {
     ghost remaining = { item_count pins_left };
 
     fn next(&mut self) -> Option<Pin> {
-        if self.left == 0 {
-            return None;
-        }
-        let pin = pin_at(self.side, self.at);
-        *self = Pins {
-            side: self.side,
-            at: self.at + PIN,
-            left: self.left - 1,
-        };
-        Some(pin)
+        let (pin, others) = self.left.split_first_chunk::<PIN>()?;
+        self.left = others;
+        Some(read_pin(pin))
     }
 }
 
@@ -95,7 +74,7 @@ impl<'a> Modules<'a> {
     pub fn new(side: &'a [u8]) -> Self
         ensures { modules_left result ≡ modules_in side.now }
     {
-        Modules { side, at: 0 }
+        Modules { left: side }
     }
 }
 
@@ -109,66 +88,49 @@ impl<'a> Iterator for Modules<'a> {
 
     ghost remaining = { item_count modules_left };
 
-    #[tactic(auto, using(crate::proofs::Lists::modules_end, crate::proofs::Lists::head_read))]
     fn next(&mut self) -> Option<Module<'a>> {
-        if self.side.len() <= self.at {
+        if self.left.is_empty() {
             return None;
         }
-        let head = head_in(self.side, self.at);
-        self.at = head.end;
-        Some(Module {
-            width: head.width,
-            edges: head.edges,
-            pins: Pins {
-                side: self.side,
-                at: head.start,
-                left: head.count,
-            },
-        })
+        let (m, behind) = first_module(self.left);
+        self.left = behind;
+        Some(m)
     }
 }
 
-// The pin at an offset of the list.
-fn pin_at(side: &[u8], at: usize) -> Pin
-    requires { at + pin_size ≤ length side.now }
-    ensures { result ≡ pin_at side.now at }
+// The pin of these bytes.
+fn read_pin(pin: &[u8; PIN]) -> Pin
+    ensures { result ≡ pin_at pin.now 0 }
 {
-    let offset = side[at];
-    let net = read_number(side, at + 1, 2) as u16;
-    Pin { offset, net }
-}
-
-// The head at an offset of the list. A module that runs past the list's end has no width and no pins, and the list ends behind it.
-fn head_in(side: &[u8], at: usize) -> Head
-    requires { at ≤ length side.now }
-    ensures { result ≡ head_in side.now at }
-{
-    let len = side.len();
-    let room = len - at;
-    if room < HEAD {
-        return cut(len);
-    }
-    let count = side[at + 1] as usize;
-    if room < HEAD + PIN * count {
-        return cut(len);
-    }
-    Head {
-        width: side[at],
-        edges: read_number(side, at + 2, 8),
-        count,
-        start: at + HEAD,
-        end: at + HEAD + PIN * count,
+    Pin {
+        offset: pin[0],
+        net: read_number(pin, 1, 2) as u16,
     }
 }
 
-fn cut(len: usize) -> Head
-    ensures { result ≡ cut_head len }
+// The first module of a list and the bytes behind it, if it ends in the list.
+fn whole_module(list: &[u8]) -> Option<(Module<'_>, &[u8])>
+    ensures { MatchOption result (length list.now < end_at list.now 0) (λ p. IsFirst list.now p.0 p.1.now) }
 {
-    Head {
+    let (head, rest) = list.split_first_chunk::<HEAD>()?;
+    let (pins, behind) = rest.split_at_checked(PIN * head[1] as usize)?;
+    let m = Module {
+        width: head[0],
+        edges: read_number(head, 2, 8),
+        pins: Pins { left: pins },
+    };
+    Some((m, behind))
+}
+
+// The first module of a list and the bytes behind it. One that runs past the list's end has no width, no set and no pins, and the list
+// ends behind it.
+fn first_module(list: &[u8]) -> (Module<'_>, &[u8])
+    ensures { IsFirst list.now result.0 result.1.now }
+{
+    let cut = Module {
         width: 0,
         edges: 0,
-        count: 0,
-        start: len,
-        end: len,
-    }
+        pins: Pins { left: &[] },
+    };
+    whole_module(list).unwrap_or((cut, &[]))
 }

@@ -1,31 +1,52 @@
-use Rattle.std.proofs.Common.{ℕ, ◌+◌, ◌-◌, ◌*◌, ◌^◌, ◌<◌, get_or, ap, ◌∙◌, arith, lit<, pow_pos}
-use Rattle.little.proofs.Bytes.{little-none, little_down, byte_more, byte_fits}
+-- `little::read_number` meets its contract: the bytes are taken from the last to the first, and before each the number has fewer bits than
+-- 64.
+-- Assumes nothing.
+use Rattle.std.proofs.Common.{◌≡◌, ℕ, ◌+◌, ◌*◌, ◌^◌, ◌<◌, ◌≤◌, List, take, length, map, fold, sym, refl, ap, ◌∙◌, arith, rules, pow_mono}
+use Rattle.std.specs.Prelude.{Some, reverse}
+use Rattle.std.specs.Iterator.Adapters.{rev_steps}
+use Rattle.std.specs.Slice.Iter.{iter_steps_back}
+use Rattle.std.proofs.lemmas.Fn.{serves_by, fold_over}
+use Rattle.std.proofs.lemmas.List.{map_push, take_all, length-reverse}
+use Rattle.std.proofs.lemmas.Iterator.Adapters.{YieldsList-from_rev_slice}
+use Rattle.std.proofs.lemmas.Iterator.Consumers.{YieldsList-so_far, YieldsList-turn}
+use Rattle.little.specs.Little.{little}
+use Rattle.little.proofs.Bytes.{shifted, shifted-push, shifted-below, part, length-part, last_to_first, little-part}
 use Rattle.little.proofs.read_number.Goals as goal
 
-pub loop-i-init : goal.loop-i-init
-loop-i-init c =
+pub fold-requires-clause-callable : goal.fold-requires-clause-callable
+fold-requires-clause-callable c =
     let a = c.args in
-    (little-none a.n a.s.now (a.at + a.n), pow_pos (8 * (a.n - a.n)))
+    let bytes : List ℕ = part a.n a.at a.s.now in
+    let size = length-part a.n a.at a.s.now c.requires.0 in
+    let below : (k : ℕ) → k ≤ a.n → fold shifted 0 (take k (reverse bytes)) < 2 ^ (8 * k)
+    = shifted-below a.s.now (λ i. (c.type_inv.s i).fits) a.n a.at c.requires.0 in
+    let road = YieldsList-from_rev_slice {s = c.rev.result} bytes (search rules) in
+    serves_by _ (λ ys q. q.1 ≡ fold shifted 0 (map (λ y. y.now) ys))
+    (λ ys q x v e r.
+    let step : v.1 ≡ shifted q.1 x.now = search rules in
+    shifted-push (map (λ y. y.now) ys) x.now e step ∙ ap (fold shifted 0) (sym (map_push (λ y. y.now) ys x)))
+    _ _ _ _ refl
+    (λ ys t q x u y next e.
+    let few : length ys < a.n = omega (arith, (YieldsList-turn road ys t y (Some x) u x refl next).0, length-reverse bytes, size) in
+    let value = e ∙ ap (fold shifted 0) (YieldsList-so_far road ys t y) in
+    let bits : 2 ^ (8 * length ys) ≤ 2 ^ 56 = pow_mono {j = 56} (omega (arith, few)) in
+    let full : q.1 * 256 + 255 < 2 ^ 64 = omega (arith, value, below (length ys) (omega (arith, few)), bits) in
+    search rules)
 
-pub overflow_mul-value : goal.overflow_mul-value
-overflow_mul-value c =
-    let l = c.loop-i in
-    let b : l.value * 256 + 0 < 2 ^ 64 =
-    byte_fits c.args.n l.i c.loop-i-test.true l.auto.i c.requires.1 l.invariant.1 (lit< tt) in
-    omega arith
-
-pub overflow_add-value-in-loop-i : goal.overflow_add-value-in-loop-i
-overflow_add-value-in-loop-i c =
-    let l = c.loop-i in
-    record { fits = byte_fits c.args.n l.i c.loop-i-test.true l.auto.i c.requires.1 l.invariant.1 (c.type_inv.s (c.args.at + (l.i - 1))).fits }
-
-pub loop-i-preserved : goal.loop-i-preserved
-loop-i-preserved c =
-    let l = c.loop-i in
-    let i = l.invariant in
+pub returns : goal.returns
+returns c =
     let a = c.args in
-    let k = l.i in (
-      ap (λ (v : ℕ). v * 256 + get_or a.s.now (a.at + (k - 1)) 0) i.0
-          ∙ little_down a.n k a.s.now a.at c.loop-i-test.true l.auto.i,
-      byte_more a.n k c.loop-i-test.true l.auto.i i.1 (c.type_inv.s (a.at + (k - 1))).fits,
+    let bytes : List ℕ = part a.n a.at a.s.now in
+    let size = length-part a.n a.at a.s.now c.requires.0 in
+    let below = shifted-below a.s.now (λ i. (c.type_inv.s i).fits) a.n a.at c.requires.0 a.n (omega arith) in
+    let all = take_all a.n (reverse bytes) (omega (arith, size, length-reverse bytes)) in
+    let road = YieldsList-from_rev_slice {s = c.rev.result} bytes (search rules) in
+    let value =
+    fold_over (rev_steps iter_steps_back) (λ y. y.now) _ (λ ys v. v ≡ fold shifted 0 ys) _
+    (λ ys v x w f e r.
+    let step : w ≡ shifted v x.now = search rules in
+    (shifted-push ys x.now e step, refl))
+    c.rev.result _ _ _ road.runs refl c.fold.ensures.ran in (
+      value ∙ last_to_first bytes ∙ ap (λ (n : ℕ). little n bytes 0) size ∙ little-part a.n a.at a.s.now,
+      omega (arith, value, ap (fold shifted 0) all, below),
     )

@@ -35,8 +35,6 @@ put_sheet-requires c =
     let bottom = ap (λ (t : Tests). t.pins) c.check_modules-under.ensures.0 in (
       all_writable a.columns ok.columns.1 (modules_in a.top.now) ok.valid.0 ok.within.0,
       all_writable a.columns ok.columns.1 (modules_in a.bottom.now) ok.valid.1 ok.within.1,
-      top,
-      bottom,
       omega (arith, top, ok.counts.0),
       omega (arith, top, bottom, ok.size),
     )

@@ -29,7 +29,15 @@ pub put_modules-requires-2 : goal.put_modules-requires-2
 put_modules-requires-2 c =
     let top = c.put_modules.ensures in (
       c.requires.1,
-      omega (arith, top.wrote.place, top.room, length-side (modules_in c.args.top.now), c.requires.2, c.requires.3, c.requires.5),
+      omega (
+        arith,
+        top.wrote.place,
+        top.room,
+        length-side (modules_in c.args.top.bytes.now),
+        c.args.top.counted,
+        c.args.bottom.counted,
+        c.requires.3,
+      ),
     )
 
 pub put_trailer-requires : goal.put_trailer-requires
@@ -42,11 +50,11 @@ put_trailer-requires c =
       top.room,
       bottom.wrote.place,
       bottom.room,
-      length-side (modules_in c.args.top.now),
-      length-side (modules_in c.args.bottom.now),
-      c.requires.2,
+      length-side (modules_in c.args.top.bytes.now),
+      length-side (modules_in c.args.bottom.bytes.now),
+      c.args.top.counted,
+      c.args.bottom.counted,
       c.requires.3,
-      c.requires.5,
     )
 
 pub returns : goal.returns
@@ -54,6 +62,6 @@ returns c =
     let a = c.args in
     let written =
     same_written
-    (sheet-bytes a.columns a.p a.q (modules_in a.top.now) (modules_in a.bottom.now) c.requires.2 c.requires.3)
+    (sheet-bytes a.columns a.top.pins a.bottom.pins (modules_in a.top.bytes.now) (modules_in a.bottom.bytes.now) a.top.counted a.bottom.counted)
     (behind (behind c.put_modules.ensures c.put_modules-2.ensures) c.put_trailer.ensures) in
     search rules

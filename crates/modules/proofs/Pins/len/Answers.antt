@@ -1,10 +1,11 @@
--- `Pins::len` meets its contract: so many pins lie from a place on.
+-- `Pins::len` meets its contract: each pin takes as many bytes.
 -- Assumes nothing.
-use Rattle.std.proofs.Common.{sym}
+use Rattle.std.proofs.Common.{◌/◌, length, sym}
+use Rattle.modules.specs.Bytes.{pin_size}
 use Rattle.modules.proofs.Lists.{length-pins}
 use Rattle.modules.proofs.Pins.len.Goals as goal
 
 pub returns : goal.returns
 returns c =
-    let p = c.args.self.now in
-    sym (length-pins p.side.now p.at p.left)
+    let b = c.args.self.now.left.now in
+    sym (length-pins b 0 (length b / pin_size))

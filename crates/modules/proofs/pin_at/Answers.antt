@@ -1,8 +1,0 @@
--- `modules::pin_at` meets its contract: each field is what its place holds.
--- Assumes nothing.
-use Rattle.modules.specs.Bytes.{pin_at}
-use Rattle.modules.proofs.pin_at.Goals as goal
-
-pub returns : goal.returns
-unfolding pin_at
-returns c = cc
