@@ -1,8 +1,8 @@
 -- Laws of a number in bytes.
 -- Assumes nothing.
-use Rattle.std.proofs.Common.{◌≡◌, ℕ, zero, suc, ◌+◌, ◌-◌, ◌*◌, ◌^◌, ◌<◌, ◌≤◌, List, [], ◌∷◌, ◌++◌, length, get_or, take, drop, refl, sym, ap, ◌∙◌, fold, zero-add, add-one, one-add, arith, pow-add, length-take, length-drop}
+use Rattle.std.proofs.Common.{◌≡◌, ℕ, zero, suc, ◌+◌, ◌-◌, ◌*◌, ◌^◌, ◌<◌, ◌≤◌, List, [], ◌∷◌, ◌++◌, length, get_or, take, drop, refl, sym, ap, ◌∙◌, fold, map, zero-add, add-one, one-add, arith, pow-add, length-take, length-drop}
 use Rattle.std.specs.Prelude.{reverse}
-use Rattle.std.proofs.lemmas.List.{get_or-take, get_or-drop, get_or-reverse, reverse-append, length-reverse}
+use Rattle.std.proofs.lemmas.List.{get_or-take, get_or-drop, get_or-reverse, map_push, reverse-append, length-reverse}
 use Rattle.std.proofs.Math.Arith.{digits_lt}
 use Rattle.std.proofs.lemmas.List.Sums.{fold-append, fold_more}
 use Rattle.little.specs.Little.{little}
@@ -38,6 +38,12 @@ last_to_first (x ∷ xs) =
 -- one byte more is taken
 pub shifted-push : (xs : List ℕ) (x : ℕ) {value next : ℕ} → value ≡ fold shifted 0 xs → next ≡ shifted value x → next ≡ fold shifted 0 (xs ++ (x ∷ []))
 shifted-push xs x e f = f ∙ ap (λ (v : ℕ). shifted v x) e ∙ sym (fold-append shifted 0 xs (x ∷ []))
+
+-- the same of items that the bytes are read from
+pub mapped-push :
+    {X : Type 0} (byte : X → ℕ) (ys : List X) (y : X) {value next : ℕ} → value ≡ fold shifted 0 (map byte ys)
+    → next ≡ shifted value (byte y) → next ≡ fold shifted 0 (map byte (ys ++ (y ∷ [])))
+mapped-push byte ys y e f = rw map_push (shifted-push (map byte ys) (byte y) e f)
 
 -- k of the n bytes from a place on, taken from the last, make a number below 2 to the number of their bits
 pub shifted-below :

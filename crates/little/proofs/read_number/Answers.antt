@@ -1,16 +1,15 @@
--- `little::read_number` meets its contract: the bytes are taken from the last to the first, and before each the number has fewer bits than
--- 64.
+-- `little::read_number` meets its contract: the bytes are taken from the last to the first, and before each there is room for one byte more.
 -- Assumes nothing.
-use Rattle.std.proofs.Common.{◌≡◌, ℕ, ◌+◌, ◌*◌, ◌^◌, ◌<◌, ◌≤◌, List, take, length, map, fold, sym, refl, ap, ◌∙◌, arith, rules, pow_mono}
+use Rattle.std.proofs.Common.{◌≡◌, ℕ, ◌+◌, ◌*◌, ◌^◌, ◌<◌, ◌≤◌, List, take, length, map, fold, refl, ap, ◌∙◌, arith, rules, pow_mono}
 use Rattle.std.specs.Prelude.{Some, reverse}
 use Rattle.std.specs.Iterator.Adapters.{rev_steps}
 use Rattle.std.specs.Slice.Iter.{iter_steps_back}
 use Rattle.std.proofs.lemmas.Fn.{serves_by, fold_over}
-use Rattle.std.proofs.lemmas.List.{map_push, take_all, length-reverse}
+use Rattle.std.proofs.lemmas.List.{take_all, length-reverse}
 use Rattle.std.proofs.lemmas.Iterator.Adapters.{YieldsList-from_rev_slice}
 use Rattle.std.proofs.lemmas.Iterator.Consumers.{YieldsList-so_far, YieldsList-turn}
 use Rattle.little.specs.Little.{little}
-use Rattle.little.proofs.Bytes.{shifted, shifted-push, shifted-below, part, length-part, last_to_first, little-part}
+use Rattle.little.proofs.Bytes.{shifted, shifted-push, mapped-push, shifted-below, part, length-part, last_to_first, little-part}
 use Rattle.little.proofs.read_number.Goals as goal
 
 pub fold-requires-clause-callable : goal.fold-requires-clause-callable
@@ -24,7 +23,7 @@ fold-requires-clause-callable c =
     serves_by _ (λ ys q. q.1 ≡ fold shifted 0 (map (λ y. y.now) ys))
     (λ ys q x v e r.
     let step : v.1 ≡ shifted q.1 x.now = search rules in
-    shifted-push (map (λ y. y.now) ys) x.now e step ∙ ap (fold shifted 0) (sym (map_push (λ y. y.now) ys x)))
+    mapped-push (λ y. y.now) ys x e step)
     _ _ _ _ refl
     (λ ys t q x u y next e.
     let few : length ys < a.n = omega (arith, (YieldsList-turn road ys t y (Some x) u x refl next).0, length-reverse bytes, size) in
