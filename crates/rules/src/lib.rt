@@ -29,7 +29,7 @@ fn distances(least: u8, greatest: u8) -> u64
 {
     let mut found: u64 = 0;
     for e in 0..64 {
-        if amount(0, e + 1, least, greatest) == 0 {
+        if amount(0, e + 1, least, greatest).is_none() {
             found = either(found, single(e as usize));
         }
     }
