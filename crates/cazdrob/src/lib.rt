@@ -32,7 +32,7 @@ pub fn cazdrob_cells(s: &[u8]) -> usize
 pub fn cazdrob_distance(before: u8, column: u8, least: u8, greatest: u8) -> i32
     ensures { result ≡ amount least greatest before column }
 {
-    i32::from(terminal::amount(before, column, least, greatest))
+    i32::from(terminal::amount(before, column, least, greatest).unwrap_or(0))
 }
 
 // Measures a column list: 0 with its density, or the number of a refusal with density 0. With 14 comes the amount by which the first bad

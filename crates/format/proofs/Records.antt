@@ -1,12 +1,22 @@
 -- Laws of the terminals in a section and of the parts of a sheet's bytes: which terminals there are, and how many.
 -- Assumes nothing.
-use Rattle.std.proofs.Common.{◌≡◌, ℕ, zero, suc, ◌+◌, ◌-◌, ◌*◌, ◌/◌, ◌<◌, ◌≤◌, min, Bool, true, false, ltb, List, [], ◌∷◌, length, get_or, take, drop, sym, refl, ap, ◌∙◌, zero-add, arith, length-drop, drop_of_length-le, length-take-le, take_all, ltb-false, ltb-true}
+use Rattle.std.proofs.Common.{◌≡◌, ℕ, zero, suc, ◌+◌, ◌-◌, ◌*◌, ◌/◌, ◌<◌, ◌≤◌, min, Bool, true, false, ltb, List, [], ◌∷◌, length, get_or, take, drop, sym, refl, ap, ap₂, add_assoc, ◌∙◌, zero-add, arith, length-drop, drop_of_length-le, length-take-le, take_all, ltb-false, ltb-true}
 use Rattle.std.proofs.Math.ListN.{get_or-eq_default}
 use Rattle.std.proofs.Math.Nat.{mul-div_right}
-use Rattle.channel.specs.Sheet.{no_terminal}
+use Rattle.std.proofs.lemmas.List.{get_or-drop, get_or-take}
+use Rattle.channel.specs.Sheet.{Terminal, no_terminal}
+use Rattle.terminal.specs.declared.Record.{Record}
+use Rattle.terminal.specs.Terminal.{record_of}
+use Rattle.little.specs.Little.{little}
 use Rattle.trailer.specs.declared.Part.{Part}
 use Rattle.format.specs.Format.{record_size, terminal_at, terminals_from}
 use Rattle.format.specs.Parts.{bytes_of, terminals_in}
+
+-- a record with 0 in each field is that of no terminal
+pub zero_record : (r : Record) → (r.net ≡ 0) × ((r.least ≡ 0) × ((r.greatest ≡ 0) × (r.allowed ≡ 0))) → r ≡ record_of no_terminal
+zero_record r (net, (least, (greatest, allowed))) =
+    let whole : r ≡ record { net = r.net; least = r.least; greatest = r.greatest; allowed = r.allowed } = refl in
+    whole ∙ rw (net, least, greatest, allowed)
 
 -- there are as many records as asked for
 length-terminals : (b : List ℕ) (i n : ℕ) → length (terminals_from b i n) ≡ n
@@ -33,6 +43,61 @@ terminal_there b i h = ap (terminal_at b) (sym (zero-add (record_size * i))) ∙
 
 pub terminal_none : (b : List ℕ) (i : ℕ) → length b / record_size ≤ i → no_terminal ≡ get_or (terminals_in b) i no_terminal
 terminal_none b i h = sym (get_or-eq_default (terminals_in b) no_terminal (rw (← length-terminals_in b) h))
+
+-- a number behind so many bytes is that of the bytes from there on, and one within so many of these alone
+little_drop : (k n : ℕ) (b : List ℕ) (i : ℕ) → little n (drop k b) i ≡ little n b (k + i)
+unfolding little
+little_drop k zero b i = refl
+little_drop k (suc n) b i =
+    ap₂ (λ (v w : ℕ). v + 256 * w) (get_or-drop k b i 0) (little_drop k n b (suc i) ∙ ap (little n b) (omega arith))
+
+little_take : (k n : ℕ) (b : List ℕ) (i : ℕ) → i + n ≤ k → little n (take k b) i ≡ little n b i
+unfolding little
+little_take k zero b i h = refl
+little_take k (suc n) b i h = ap₂ (λ (v w : ℕ). v + 256 * w) (get_or-take k b i 0 (omega arith)) (little_take k n b (suc i) (omega arith))
+
+-- and so it is with records
+record_drop : (k : ℕ) (b : List ℕ) (i : ℕ) → terminal_at (drop k b) i ≡ terminal_at b (k + i)
+unfolding terminal_at
+record_drop k b i =
+    rw (
+      little_drop k 2 b i,
+      get_or-drop k b (i + 2) 0,
+      get_or-drop k b (i + 3) 0,
+      little_drop k 8 b (i + 4),
+      add_assoc k i 2,
+      add_assoc k i 3,
+      add_assoc k i 4,
+    )
+
+record_take : (b : List ℕ) → terminal_at (take record_size b) 0 ≡ terminal_at b 0
+unfolding terminal_at
+record_take b =
+    rw (
+      little_take record_size 2 b 0 (omega arith),
+      get_or-take record_size b 2 0 (omega arith),
+      get_or-take record_size b 3 0 (omega arith),
+      little_take record_size 8 b 4 (omega arith),
+    )
+
+from_drop : (k : ℕ) (b : List ℕ) (i n : ℕ) → terminals_from (drop k b) i n ≡ terminals_from b (k + i) n
+unfolding terminals_from
+from_drop k b i zero = refl
+from_drop k b i (suc n) =
+    ap₂ (λ (t : Terminal) (ts : List Terminal). t ∷ ts) (record_drop k b i)
+    (from_drop k b (i + record_size) n ∙ ap (λ (j : ℕ). terminals_from b j n) (omega arith))
+
+-- the terminals of bytes that hold a record are that of the first and those of what is behind it
+pub first_terminal : (b : List ℕ) → record_size ≤ length b → terminals_in b ≡ terminal_at (take record_size b) 0 ∷ terminals_in (drop record_size b)
+unfolding terminals_in terminals_from
+first_terminal b h =
+    let more : length b / record_size ≡ suc (length (drop record_size b) / record_size) = rw length-drop (omega arith) in
+    rw (more, record_take b, from_drop record_size b 0 (length (drop record_size b) / record_size))
+
+-- and shorter bytes have none
+pub no_terminal_left : (b : List ℕ) → length b < record_size → terminals_in b ≡ []
+unfolding terminals_in terminals_from
+no_terminal_left b h = let none : length b / record_size ≡ 0 = omega arith in rw none
 
 -- a part that lies in the bytes has as many terminals as it says
 pub part_terminals :

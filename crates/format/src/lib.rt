@@ -17,8 +17,7 @@ pub const RECORD: usize = 12;
 // The terminals of a section that are still to come.
 #[derive(Clone, Copy)]
 pub struct Terminals<'a> {
-    part: &'a [u8],
-    passed: usize,
+    left: &'a [u8],
 }
 
 impl<'a> Terminals<'a> {
@@ -28,7 +27,7 @@ impl<'a> Terminals<'a> {
     pub fn new(part: &'a [u8]) -> Self
         ensures { terminals_left result ≡ terminals_in part.now }
     {
-        Terminals { part, passed: 0 }
+        Terminals { left: part }
     }
 }
 
@@ -43,13 +42,11 @@ impl<'a> Iterator for Terminals<'a> {
 
     ghost remaining = { item_count terminals_left };
 
+    #[tactic(auto, using(crate::proofs::Records::no_terminal_left, crate::proofs::Records::first_terminal))]
     fn next(&mut self) -> Option<Record> {
-        if count_in(self.part) <= self.passed {
-            return None;
-        }
-        let record = terminal_at(self.part, self.passed);
-        self.passed += 1;
-        Some(record)
+        let (record, rest) = self.left.split_first_chunk::<RECORD>()?;
+        self.left = rest;
+        Some(read_record(record, 0))
     }
 }
 
@@ -78,12 +75,7 @@ pub fn terminal_at(part: &[u8], i: usize) -> Record
     if i < part.len() / RECORD {
         read_record(part, RECORD * i)
     } else {
-        Record {
-            net: 0,
-            least: 0,
-            greatest: 0,
-            allowed: 0,
-        }
+        Record::default()
     }
 }
 

@@ -17,7 +17,8 @@ use Rattle.list.specs.Answer.{side_allowed, all_allowed, first_of, later_amount,
 use Rattle.list.specs.Answer.{is_zero, unless, columns_listed, sheet_listed, listed_of}
 use Rattle.list.specs.Returned.{number_of, amount_of, Long, Answers, Returned}
 use Rattle.refusals.specs.declared.ListRefusal.{ListRefusal}
-use Rattle.list.proofs.Amounts.{zero_true, zero_false, zero_first, zero_amount}
+use Rattle.terminal.proofs.Laws.{zero_true, zero_false, zero_amount}
+use Rattle.list.proofs.Amounts.{zero_first}
 
 -- two pairs of tests, regrouped
 regroup : (w x y z : Bool) → (w && x && (y && z)) ≡ (w && y && (x && z))

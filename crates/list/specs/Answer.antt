@@ -1,10 +1,11 @@
 -- Whether a column list is an assignment of a sheet, and else the first refusal that applies (document 01, "Column, crossing, density" and
 -- "The refusal list"; document 02, T-01).
 -- Assumes nothing.
-use Rattle.std.specs.Prelude.{ℕ, zero, suc, ◌+◌, List, [], ◌∷◌, Bool, true, false, cond, ◌&&◌, length, eqb, ℤ, pos, negsuc, Option, Some, None, Result, Ok, Err}
+use Rattle.std.specs.Prelude.{ℕ, ◌+◌, List, [], ◌∷◌, Bool, true, false, cond, ◌&&◌, length, eqb, ℤ, pos, Result, Ok, Err}
 use Rattle.channel.specs.Sheet.{Terminal, Sheet}
 use Rattle.channel.specs.Assignment.{allows, top_columns, bottom_columns}
 use Rattle.channel.specs.Distance.{amount}
+pub use Rattle.terminal.specs.Amount.{is_zero, out_of_range}
 use Rattle.refusals.specs.declared.ListRefusal.{ListRefusal}
 use Rattle.refusals.specs.declared.ListRefusal.TheVariants.{Sheet as Unsound, Count, Allowed, Distance}
 use Rattle.soundness.specs.Read.{sheet_of}
@@ -22,19 +23,9 @@ side_allowed (t ∷ ts) (c ∷ cs) = allows t.allowed c && side_allowed ts cs
 unfoldable pub all_allowed : Sheet → List ℕ → Bool
 all_allowed s cs = side_allowed s.top (top_columns s cs) && side_allowed s.bottom (bottom_columns s cs)
 
--- whether an amount is 0: the distance is in range
-abbrev pub is_zero : ℤ → Bool
-is_zero (pos zero) = true
-is_zero (pos (suc n)) = false
-is_zero (negsuc n) = false
-
 -- the first of two amounts that is not 0
 abbrev pub first_of : ℤ → ℤ → ℤ
 first_of z next = cond (is_zero z) next z
-
--- an amount that is not 0; of 0 there is none
-abbrev pub out_of_range : ℤ → Option ℤ
-out_of_range z = cond (is_zero z) None (Some z)
 
 -- 14 of the terminals after the first, with the column of the terminal before them: the amount of the first distance out of range, or 0
 abbrev pub later_amount : List Terminal → ℕ → List ℕ → ℤ

@@ -34,8 +34,7 @@ impl<'a> ListedSide<'a> {
         // nothing ties the first
         let mut before = *pins.next()?.1;
         for (r, column) in pins {
-            let amount = terminal::amount(before, *column, r.least, r.greatest);
-            if amount != 0 {
+            if let Some(amount) = terminal::amount(before, *column, r.least, r.greatest) {
                 return Some(amount);
             }
             before = *column;

@@ -1,15 +1,14 @@
 -- Why the two words that are made for a terminal are its rule.
 -- Assumes nothing.
-use Rattle.std.proofs.Common.{ℕ, zero, suc, ◌+◌, ◌-◌, ◌/◌, ◌%◌, ◌^◌, ◌≤◌, ◌<◌, ◌≡◌, refl, sym, ◌∙◌, ap, List, Bool, true, false, ◌&&◌, ◌||◌, arith, zero-add, suc-add, add-one, get_or, leb, ltb, eqb, le-leb, ltb-true, ltb-false, lt-ltb, le-ltb, eqb-true}
+use Rattle.std.proofs.Common.{ℕ, zero, suc, ◌+◌, ◌-◌, ◌/◌, ◌%◌, ◌^◌, ◌≤◌, ◌<◌, ◌≡◌, refl, sym, ◌∙◌, ap, List, Bool, true, false, ◌&&◌, ◌||◌, arith, zero-add, suc-add, add-one, leb, ltb, eqb, le-leb, ltb-true, ltb-false, lt-ltb, le-ltb, eqb-true}
 use Rattle.std.proofs.Math.Bool.{and-true, and-false, or-false}
 use Rattle.std.proofs.Math.Dec.{leb-suc-suc}
 use Rattle.std.proofs.lemmas.Bool.{lt-leb, eqb-false}
-use Rattle.channel.specs.Sheet.{no_terminal}
+use Rattle.channel.specs.Sheet.{Terminal}
 use Rattle.channel.specs.Assignment.{allows, in_range}
 use Rattle.channel.proofs.Sets.{allows_at}
 use Rattle.terminal.specs.declared.Record.{Record}
-use Rattle.terminal.specs.Terminal.{record_of}
-use Rattle.format.specs.Parts.{terminals_in}
+use Rattle.terminal.specs.Terminal.{terminal_of}
 use Rattle.reach.specs.Reach.{terminal_number}
 use Rattle.bits.specs.Bits.{bit_of}
 use Rattle.bits.proofs.Laws.{bit_zero, bit_shr, bit-full}
@@ -71,19 +70,14 @@ unfolding bit_of
 allowed_shift set i x h =
     bit_shr set (i - 1) x ∙ ap (λ (k : ℕ). eqb (set / 2 ^ k % 2) 1) (omega arith) ∙ sym (allows_at set (x + i) (omega arith))
 
--- the record of a place's terminal
-module _ (part : List ℕ) (place : ℕ) (r : Record) (p : 1 ≤ place)
-    (answer : r ≡ record_of (get_or (terminals_in part) (place - 1) no_terminal)) where
-  here : record_of (terminal_number (terminals_in part) place) ≡ r
-  here = ap (λ (k : ℕ). record_of (get_or (terminals_in part) k no_terminal)) (omega arith) ∙ sym answer
-
-  -- and so is its set, shifted down
-  allowed-word :
-      (x : ℕ) → bit_of (r.allowed / 2 ^ (place - 1)) x ≡ allows (terminal_number (terminals_in part) place).allowed (x + place)
-  allowed-word x = allowed_shift r.allowed place x p ∙ ap (λ (q : Record). allows q.allowed (x + place)) (sym here)
+-- the terminal at a place
+module _ (ts : List Terminal) (place : ℕ) (r : Record) (p : 1 ≤ place) (is : terminal_number ts place ≡ terminal_of r) where
+  -- its set, shifted down
+  allowed-word : (x : ℕ) → bit_of (r.allowed / 2 ^ (place - 1)) x ≡ allows (terminal_number ts place).allowed (x + place)
+  allowed-word x = allowed_shift r.allowed place x p ∙ ap (λ (t : Terminal). allows t.allowed (x + place)) (sym is)
 
   -- the first terminal's rule has every distance, and a later one's those in its range
-  pub first_rule : place ≡ 1 → TerminalRule (terminals_in part) place 18446744073709551615 (r.allowed / 2 ^ (place - 1))
+  pub first_rule : place ≡ 1 → TerminalRule ts place 18446744073709551615 (r.allowed / 2 ^ (place - 1))
   first_rule one =
       record {
         range = λ k t h. bit-full k h ∙ sym (rw (le-leb place 1 (omega arith)));
@@ -92,14 +86,14 @@ module _ (part : List ℕ) (place : ℕ) (r : Record) (p : 1 ≤ place)
 
   pub later_rule :
       (place ≡ 1 → ⊥) → (w : ℕ) → ((k : ℕ) → k < 64 → bit_of w k ≡ in_range r.least r.greatest 0 (k + 1))
-      → TerminalRule (terminals_in part) place w (r.allowed / 2 ^ (place - 1))
+      → TerminalRule ts place w (r.allowed / 2 ^ (place - 1))
   later_rule later w within =
       record {
         range =
             λ k t h.
             within k h
             ∙ range_shift r.least r.greatest k t
-            ∙ ap (λ (q : Record). in_range q.least q.greatest t (t + suc k)) (sym here)
+            ∙ ap (λ (q : Terminal). in_range q.least q.greatest t (t + suc k)) (sym is)
             ∙ sym (rw (lt-leb place 1 (omega arith)));
         allowed = allowed-word;
       }

@@ -2,18 +2,21 @@
 // word of columns.
 #![tactic(auto)]
 
-ghost use Rattle.std.specs.Prelude.{ℕ, ◌+◌, ◌≤◌, ◌<◌, ◌≡◌, length};
+ghost use Rattle.std.specs.Prelude.{ℕ, ◌+◌, ◌≤◌, ◌<◌, ◌≡◌, List, length};
+ghost use Rattle.channel.specs.Sheet.{Terminal};
 ghost use Rattle.channel.specs.Assignment.{in_range};
 ghost use Rattle.arrays.specs.Rules.{pins, side_number};
 ghost use Rattle.bits.specs.Bits.{bit_of};
+ghost use Rattle.terminal.specs.Terminal.{terminal_of};
 ghost use Rattle.format.specs.Parts.{terminals_in};
+ghost use Rattle.reach.specs.Reach.{terminal_number};
 ghost use Rattle.rules.specs.Sides.{TerminalRule, SideRead};
 
 use arrays::RuleTable;
 use bits::{either, single};
 use channel::Side;
-use format::{count_in, terminal_at};
-use terminal::amount;
+use format::Terminals;
+use terminal::{Record, amount};
 
 // One terminal's words: bit e of the range is the distance e + 1, and bit x of the allowed set is the
 // column x plus the terminal's place.
@@ -29,20 +32,19 @@ fn distances(least: u8, greatest: u8) -> u64
 {
     let mut found: u64 = 0;
     for e in 0..64 {
-        if amount(0, e + 1, least, greatest) == 0 {
+        if amount(0, e + 1, least, greatest).is_none() {
             found = either(found, single(e as usize));
         }
     }
     found
 }
 
-// The rule of the terminal at a place, from 1, of a section. The first is tied to no terminal before it.
-fn rule_of(part: &[u8], place: usize) -> Rule
-    requires { (1 ≤ place) × (place ≤ length (terminals_in part.now)) × (place ≤ pins) }
-    ensures { TerminalRule (terminals_in part.now) place result.range result.allowed }
+// The rule of a terminal with its place, from 1. The first is tied to no terminal before it.
+fn rule_of(terminal: Record, place: usize) -> Rule
+    requires { (1 ≤ place) × (place ≤ pins) }
+    ensures { (ts : List Terminal) → terminal_number ts place ≡ terminal_of terminal → TerminalRule ts place result.range result.allowed }
 {
-    let t = terminal_at(part, place - 1);
-    let allowed = t.allowed >> (place - 1);
+    let allowed = terminal.allowed >> (place - 1);
     if place == 1 {
         return Rule {
             range: u64::MAX,
@@ -50,7 +52,7 @@ fn rule_of(part: &[u8], place: usize) -> Rule
         };
     }
     Rule {
-        range: distances(t.least, t.greatest),
+        range: distances(terminal.least, terminal.greatest),
         allowed,
     }
 }
@@ -60,10 +62,8 @@ pub fn read_rules(part: &[u8], rules: &mut RuleTable, side: Side)
     requires { length (terminals_in part.now) ≤ pins }
     ensures { SideRead (side_number side) (terminals_in part.now) rules.old.words rules.new.words }
 {
-    let count = count_in(part);
-    // by place, which is part of what is put
-    for i in 0..count {
-        let rule = rule_of(part, i + 1);
+    for (i, terminal) in Terminals::new(part).enumerate() {
+        let rule = rule_of(terminal, i + 1);
         rules.put(side, i + 1, rule.range, rule.allowed);
     }
 }

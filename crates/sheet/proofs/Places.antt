@@ -1,6 +1,6 @@
 -- Laws of the parts of a sheet: its shape and its sections, and that a record of a section is that record of the sheet.
 -- Assumes nothing.
-use Rattle.std.proofs.Common.{◌≡◌, ℕ, zero, suc, ◌+◌, ◌-◌, ◌*◌, ◌<◌, ◌≤◌, List, [], ◌∷◌, length, get_or, Some, None, Ok, Err, Result, sym, refl, ap, ◌∙◌, arith}
+use Rattle.std.proofs.Common.{◌≡◌, ℕ, zero, suc, ◌+◌, ◌*◌, ◌<◌, ◌≤◌, List, [], ◌∷◌, length, get_or, Some, None, Ok, Err, Result, sym, refl, ap, ◌∙◌, arith}
 use Rattle.std.proofs.Math.Nat.{min-eq_left}
 use Rattle.channel.specs.Sheet.{Terminal, no_terminal, Sheet, terminals}
 use Rattle.refusals.specs.declared.Refusal.{Refusal}
@@ -17,6 +17,7 @@ use Rattle.soundness.specs.Check.{terminals_of, check_of}
 use Rattle.soundness.specs.Read.{Read, sheet_of, read}
 use Rattle.soundness.specs.Read.Read.{sound, refused}
 use Rattle.sheet.specs.declared.Layout.{Layout}
+use Rattle.sheet.specs.declared.Shape.{Shape}
 use Rattle.sheet.specs.Parts.{no_shape, shape_of, layout_of, opened_as, opened_of, section_of}
 use Rattle.sheet.specs.Parts.{section_at, nth, entry_of, entry_in, side_of, entry_as, entry_at}
 use Rattle.form.proofs.Forms.{Formed}
@@ -34,21 +35,25 @@ nth_past (t ∷ ts) zero h = elim h [ ]
 nth_past [] k h = refl
 nth_past (t ∷ ts) (suc k) h = nth_past ts k (omega arith)
 
--- places count from 1
-entry_at_lem : (ts : List Terminal) (place : ℕ) → (place ≡ 0 → ⊥) → entry_of ts place ≡ nth ts (place - 1)
-entry_at_lem ts zero h = absurd (h refl)
-entry_at_lem ts (suc k) h = ap (nth ts) (omega arith)
+-- what a place of any bytes gives: places count from 1
+pub entry_none : (part : List ℕ) (place : ℕ) → place ≡ 0 → None ≡ entry_in part place
+unfolding entry_in
+entry_none part place h = rw h
 
--- what a place of any bytes gives
-module _ (part : List ℕ) (place : ℕ) (some : place ≡ 0 → ⊥) where
-  pub entry_found : place - 1 < length (terminals_in part)
-      → Some (record_of (get_or (terminals_in part) (place - 1) no_terminal)) ≡ entry_in part place
+module _ (part : List ℕ) (place i : ℕ) (is : place ≡ suc i) where
+  pub entry_found : i < length (terminals_in part) → Some (record_of (get_or (terminals_in part) i no_terminal)) ≡ entry_in part place
   unfolding entry_in
-  entry_found h = nth-found (terminals_in part) (place - 1) h ∙ sym (entry_at_lem (terminals_in part) place some)
+  entry_found h = rw is (nth-found (terminals_in part) i h)
 
-  pub entry-nothing : length (terminals_in part) ≤ place - 1 → None ≡ entry_in part place
+  pub entry-nothing : length (terminals_in part) ≤ i → None ≡ entry_in part place
   unfolding entry_in
-  entry-nothing h = sym (entry_at_lem (terminals_in part) place some ∙ nth_past (terminals_in part) (place - 1) h)
+  entry-nothing h = rw is (sym (nth_past (terminals_in part) i h))
+
+-- a shape with 0 in each field is that of a refused sheet
+pub zero_shape : (r : Shape) → (r.columns ≡ 0) × ((r.top ≡ 0) × ((r.bottom ≡ 0) × ((r.cells ≡ 0) × (r.pins ≡ 0)))) → r ≡ no_shape
+zero_shape r (columns, (top, (bottom, (cells, pins)))) =
+    let whole : r ≡ record { columns = r.columns; top = r.top; bottom = r.bottom; cells = r.cells; pins = r.pins } = refl in
+    whole ∙ rw (columns, top, bottom, cells, pins)
 
 -- what is said of a refused sheet
 module _ (b : List ℕ) (why : Refusal) (refuses : check_of b ≡ Err why) where

@@ -8,7 +8,7 @@ use trailer::Part;
 
 // L, p and q of a sound sheet, and what a search of it needs: work cells and column bytes.
 // All are 0 for a refused sheet.
-#[derive(Clone, Copy)]
+#[derive(Clone, Copy, Default)]
 pub struct Shape {
     pub columns: usize,
     pub top: usize,

@@ -71,13 +71,7 @@ pub fn shape_of(s: &[u8]) -> Shape
 {
     match open(s) {
         Ok(layout) => layout.shape,
-        Err(_) => Shape {
-            columns: 0,
-            top: 0,
-            bottom: 0,
-            cells: 0,
-            pins: 0,
-        },
+        Err(_) => Shape::default(),
     }
 }
 
@@ -105,10 +99,7 @@ pub fn section(s: &[u8], side: Side) -> &[u8]
 pub fn record_in(part: &[u8], place: usize) -> Option<Record>
     ensures { result ≡ entry_in part.now place }
 {
-    if place == 0 {
-        return None;
-    }
-    let i = place - 1;
+    let i = place.checked_sub(1)?;
     if i < count_in(part) {
         Some(terminal_at(part, i))
     } else {

@@ -15,7 +15,7 @@ pub fn range<W: Write>(
     least: u8,
     greatest: u8,
 ) -> io::Result<()> {
-    let amount = terminal::amount(before, column, least, greatest);
+    let amount = terminal::amount(before, column, least, greatest).unwrap_or(0);
     writeln!(
         out,
         "from {before} to {column} within {least} to {greatest}: {amount}"

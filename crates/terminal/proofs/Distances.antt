@@ -1,10 +1,20 @@
 -- Sixteen bits hold the difference of two columns, and that less a bound, so the machine's signed differences and tests are the
 -- definition's.
 -- Assumes nothing.
-use Rattle.std.proofs.Common.{◌≡◌, ℕ, zero, suc, ◌+◌, ◌-◌, ◌<◌, ◌≤◌, Bool, true, false, cond, ltb, ℤ, pos, negsuc, ◌-ℤ◌, sym, ◌∙◌, subst, ap₂, arith, w16, SFits, to_z, of_z}
+use Rattle.std.proofs.Common.{◌≡◌, ℕ, zero, suc, ◌+◌, ◌-◌, ◌<◌, ◌≤◌, Bool, true, false, cond, ltb, ltb-true, ℤ, pos, negsuc, ◌-ℤ◌, ◌+ℤ◌, zero-add, sym, ◌∙◌, subst, ap₂, arith, w16, SFits, to_z, of_z, ap, Some, None}
+use Rattle.std.proofs.Math.IntN.{ -ℤ-+ℤ_cancel}
 use Rattle.std.proofs.lemmas.Int.{to_z-of_z}
 use Rattle.std.specs.Int.Signed.{lt_z, mag}
 use Rattle.channel.specs.Distance.{distance, amount}
+use Rattle.terminal.specs.Amount.{out_of_range}
+use Rattle.terminal.proofs.Laws.{zero_false}
+
+-- a number other than a bound is not 0 away from it
+apart : (z : ℤ) (k : ℕ) → (z ≡ pos k → ⊥) → Some (z -ℤ pos k) ≡ out_of_range (z -ℤ pos k)
+apart z k h = rw (zero_false (z -ℤ pos k) (λ e. h (sym (-ℤ-+ℤ_cancel z (pos k)) ∙ ap (λ (d : ℤ). d +ℤ pos k) e ∙ ap pos (zero-add k))))
+
+same_not_less : (k : ℕ) → lt_z (pos k) (pos k) ≡ true → ⊥
+same_not_less k h = omega (arith, ltb-true k k h)
 
 -- what is taken from a number moves its size by no more
 size_minus : (z : ℤ) (k : ℕ) → mag (z -ℤ pos k) ≤ mag z + k
@@ -54,19 +64,28 @@ module _ {before column : ℕ} (b : before < 256) (c : column < 256) where
     long-read : lt_z (to_z w16 greatest) (to_z w16 word) ≡ lt_z (pos greatest) (distance before column)
     long-read = ap₂ lt_z (byte greatest g) held
 
+    -- each of the three answers
     pub short-held :
         lt_z (to_z w16 word) (to_z w16 least) ≡ true
-        → to_z w16 (of_z w16 (to_z w16 word -ℤ to_z w16 least)) ≡ amount least greatest before column
+        → Some (to_z w16 (of_z w16 (to_z w16 word -ℤ to_z w16 least))) ≡ out_of_range (amount least greatest before column)
     unfolding amount
-    short-held h = less-held word least (distance before column) held small l ∙ sym (rw (sym short-read ∙ h))
+    short-held h =
+        let less = sym short-read ∙ h in
+        ap Some (less-held word least (distance before column) held small l)
+        ∙ apart (distance before column) least (λ e. same_not_less least (rw e at less))
+        ∙ sym (rw less)
 
     module _ (h : lt_z (to_z w16 word) (to_z w16 least) ≡ false) where
       pub long-held :
           lt_z (to_z w16 greatest) (to_z w16 word) ≡ true
-          → to_z w16 (of_z w16 (to_z w16 word -ℤ to_z w16 greatest)) ≡ amount least greatest before column
+          → Some (to_z w16 (of_z w16 (to_z w16 word -ℤ to_z w16 greatest))) ≡ out_of_range (amount least greatest before column)
       unfolding amount
-      long-held k = less-held word greatest (distance before column) held small g ∙ sym (rw (sym short-read ∙ h, sym long-read ∙ k))
+      long-held k =
+          let more = sym long-read ∙ k in
+          ap Some (less-held word greatest (distance before column) held small g)
+          ∙ apart (distance before column) greatest (λ e. same_not_less greatest (rw e at more))
+          ∙ sym (rw (sym short-read ∙ h, more))
 
-      pub range-held : lt_z (to_z w16 greatest) (to_z w16 word) ≡ false → pos 0 ≡ amount least greatest before column
+      pub range-held : lt_z (to_z w16 greatest) (to_z w16 word) ≡ false → None ≡ out_of_range (amount least greatest before column)
       unfolding amount
       range-held k = sym (rw (sym short-read ∙ h, sym long-read ∙ k))

@@ -1,1 +1,2 @@
+pub mod Amount
 pub mod Terminal

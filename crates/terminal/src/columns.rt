@@ -3,6 +3,7 @@ ghost use Rattle.std.specs.Prelude.{◌≡◌};
 ghost use Rattle.channel.specs.Sheet.{names_above};
 ghost use Rattle.channel.specs.Assignment.{allows as allowed};
 ghost use Rattle.channel.specs.Distance.{amount};
+ghost use Rattle.terminal.specs.Amount.{out_of_range};
 
 // Whether a set names a column above `columns`: the test behind 8.
 pub fn names_above(set: u64, columns: usize) -> bool
@@ -28,17 +29,17 @@ pub fn allows(set: u64, column: u8) -> bool
     (set >> (column - 1)) % 2 == 1
 }
 
-// By how many columns the distance from the column before to this one is out of range: 0 in range, negative where it is too short,
+// By how many columns the distance from the column before to this one is out of range: none in range, negative where it is too short,
 // which is tried first, positive where it is too long. Every distance is decided here.
-pub fn amount(before: u8, column: u8, least: u8, greatest: u8) -> i16
-    ensures { result ≡ amount least greatest before column }
+pub fn amount(before: u8, column: u8, least: u8, greatest: u8) -> Option<i16>
+    ensures { result ≡ out_of_range (amount least greatest before column) }
 {
     let distance = column as i16 - before as i16;
     if distance < least as i16 {
-        return distance - least as i16;
+        return Some(distance - least as i16);
     }
     if distance > greatest as i16 {
-        return distance - greatest as i16;
+        return Some(distance - greatest as i16);
     }
-    0
+    None
 }

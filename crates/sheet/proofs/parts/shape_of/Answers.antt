@@ -2,7 +2,7 @@
 -- Assumes nothing.
 use Rattle.std.proofs.Common.{sym, ap, ◌∙◌}
 use Rattle.sheet.specs.declared.Layout.{Layout}
-use Rattle.sheet.proofs.Places.{opened_sound, opened_refused, layout_shape, refused-shape}
+use Rattle.sheet.proofs.Places.{opened_sound, opened_refused, layout_shape, zero_shape, refused-shape}
 use Rattle.sheet.proofs.parts.shape_of.Goals as goal
 
 pub returns-in-Ok : goal.returns-in-Ok
@@ -11,4 +11,4 @@ returns-in-Ok c =
     ap (λ (n : Layout). n.shape) laid ∙ layout_shape _ checks
 
 pub returns-in-Err : goal.returns-in-Err
-returns-in-Err c = refused-shape _ _ (opened_refused _ _ (sym c.in-Err.ensures))
+returns-in-Err c = zero_shape c.default.result c.default.ensures ∙ refused-shape _ _ (opened_refused _ _ (sym c.in-Err.ensures))
