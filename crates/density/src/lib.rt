@@ -3,39 +3,28 @@
 
 ghost use Rattle.std.specs.Prelude.{◌≡◌, ℕ, ◌≤◌, ◌<◌, length, get_or, replicate};
 ghost use Rattle.channel.specs.Density.{weight, maximum_to, density};
-ghost use Rattle.sheet.specs.Sections.{Beside, sheet_held};
+ghost use Rattle.sheet.specs.Sections.{sheet_held};
 ghost use Rattle.ends.specs.Pins.{pins_in};
 ghost use Rattle.density.specs.Counted.{within, net_spans, Added, Small, counted_at};
 
+use arrayvec::ArrayVec;
 use ends::PinList;
-use nets::{Distinct, all_nets};
-use sheet::Sections;
+use list::ListedSheet;
+use nets::Distinct;
 
-// The density of a list, from the sections of its sheet.
-pub fn list_density(sections: Sections, columns: &[u8]) -> u32
-    requires { Beside sections columns.now }
-    ensures { result ≡ density (sheet_held sections.entry) columns.now }
+// The density of a list beside its sheet.
+pub fn list_density(listed: ListedSheet) -> u32
+    ensures { result ≡ density (sheet_held listed.entry.sections) listed.entry.columns.now }
 {
-    let l = sections.shape.columns;
-    let n = columns.len();
-    let mut nets: [u16; 128] = [0; 128];
-    all_nets(
-        sections.top,
-        sections.bottom,
-        sections.shape.top,
-        &mut nets[..n],
-    );
-    let pins = PinList {
-        nets: &nets[..n],
-        columns,
-    };
+    let mut nets = ArrayVec::new();
+    let pins = listed.pins(&mut nets);
     let mut counts: [u16; 256] = [0; 256];
     count_nets(pins, &mut counts);
-    u32::from(greatest(&counts, l))
+    u32::from(greatest(&counts, listed.sections.shape.columns))
 }
 
 // Counts each net once.
-fn count_nets(pins: PinList, counts: &mut [u16])
+fn count_nets(pins: PinList, counts: &mut [u16; 256])
     requires { (length pins.nets.now ≤ 128) × (counts.old ≡ replicate 256 0) }
     ensures { (c : ℕ) → get_or counts.new c 0 ≡ counted_at pins.entry.nets.now pins.entry.columns.now c }
 {
@@ -45,8 +34,8 @@ fn count_nets(pins: PinList, counts: &mut [u16])
 }
 
 // Adds one net to the columns that it crosses: from its left end to its right end, if they differ.
-fn count_net(net: u16, pins: PinList, counts: &mut [u16])
-    requires { (length counts.old ≡ 256) × Small counts.old }
+fn count_net(net: u16, pins: PinList, counts: &mut [u16; 256])
+    requires { Small counts.old }
     ensures { Added (weight net) (λ (c : ℕ). net_spans (pins_in pins.entry) c net)
         counts.old counts.new }
 {
@@ -57,8 +46,8 @@ fn count_net(net: u16, pins: PinList, counts: &mut [u16])
 }
 
 // Adds 1 to the counts of the columns `from` to `to`.
-fn add_span(counts: &mut [u16], from: usize, to: usize)
-    requires { (from ≤ to) × (to < length counts.old) × Small counts.old }
+fn add_span(counts: &mut [u16; 256], from: usize, to: usize)
+    requires { (from ≤ to) × (to < 256) × Small counts.old }
     ensures { Added 1 (within from to) counts.old counts.new }
 {
     for count in &mut counts[from..=to] {
@@ -67,8 +56,8 @@ fn add_span(counts: &mut [u16], from: usize, to: usize)
 }
 
 // The greatest count of columns 1 to `l`.
-fn greatest(counts: &[u16], l: usize) -> u16
-    requires { l < length counts.now }
+fn greatest(counts: &[u16; 256], l: usize) -> u16
+    requires { l < 256 }
     ensures { result ≡ maximum_to l (λ (c : ℕ). get_or counts.now c 0) }
 {
     counts[1..=l].iter().fold(0, |most, count| most.max(*count))

@@ -1,20 +1,22 @@
 -- The check of a column list, from what the sheet layer and the two tests answer.
 -- Assumes nothing.
-use Rattle.std.proofs.Common.{◌≡◌, ℕ, ◌+◌, ◌-◌, ◌≤◌, true, false, ◌&&◌, List, length, take, drop, ℤ, Some, None, Ok, Err, Result, sym, ap, ◌∙◌, arith, length-drop, take_all, eq-eqb, ne_eqb}
+use Rattle.std.proofs.Common.{◌≡◌, ℕ, ◌+◌, ◌-◌, ◌≤◌, true, false, ◌&&◌, List, length, take, drop, ℤ, Some, None, Ok, Err, Result, sym, refl, ap, ◌∙◌, arith, length-drop, take_all, eq-eqb, ne_eqb}
 use Rattle.channel.specs.Sheet.{Terminal, Sheet, sheet_with}
 use Rattle.channel.specs.Assignment.{top_columns, bottom_columns}
 use Rattle.refusals.specs.declared.Refusal.{Refusal}
 use Rattle.refusals.specs.declared.ListRefusal.TheVariants.{Sheet as Unsound, Count, Allowed, Distance}
 use Rattle.soundness.specs.Read.{sheet_of}
+use Rattle.soundness.proofs.Laws.{read-sound}
 use Rattle.sheet.specs.declared.Layout.{Layout}
 use Rattle.sheet.specs.declared.Shape.{Shape}
 use Rattle.sheet.specs.declared.Sections.{Sections}
-use Rattle.sheet.specs.Sections.{Held, sheet_held}
+use Rattle.sheet.specs.Sections.{Held, sheet_held, Beside}
 use Rattle.std.specs.Borrow.{Bor}
-use Rattle.format.specs.Parts.{terminals_in}
 use Rattle.sheet.specs.Parts.{opened_of}
 use Rattle.sheet.proofs.Laws.{Opens, opens, held_sheet, held_shape}
 use Rattle.list.specs.Answer.{side_allowed, all_allowed, out_of_range, first_of, side_amount, first_amount}
+use Rattle.list.specs.Listed.{GivesListed}
+use Rattle.list.specs.declared.listed.ListedSheet.{ListedSheet}
 use Rattle.list.specs.Answer.{is_zero, unless, columns_listed, sheet_listed, listed_of}
 use Rattle.refusals.specs.declared.ListRefusal.{ListRefusal}
 use Rattle.list.proofs.Amounts.{some_amount, none_amount}
@@ -72,6 +74,15 @@ module _ (l : ℕ) (ts us : List Terminal) (cs : List ℕ) (n : Layout) (p : ℕ
       pub listed : out_of_range (both_amount ts us cs p) ≡ None → Ok n ≡ columns_listed (sheet_with l ts us) cs n
       listed e = rw (none_amount (both_amount ts us cs p) e) at by-amount
 
+-- an answer, as the check gives it
+module _ (s columns : Bor (List ℕ)) (answer : Result Layout ListRefusal) where
+  pub refusal_given :
+      (why : ListRefusal) → Err why ≡ answer → (r : Result ListedSheet ListRefusal) → r ≡ Err why → GivesListed s columns answer r
+  refusal_given why e r given = rw (given, ← e) refl
+
+  pub sheet_given : (n : Layout) → Ok n ≡ answer → (m : ListedSheet) → Held s n m.sections → m.columns ≡ columns → GivesListed s columns answer (Ok m)
+  sheet_given n e m held own = rw (← e) (held, own)
+
 -- what is said of a sheet that does not open
 pub sheet-refused : (b cs : List ℕ) (why : Refusal) → opened_of b ≡ Err why → Err (Unsound why) ≡ listed_of b cs
 unfolding listed_of
@@ -102,11 +113,20 @@ module _ (s : Bor (List ℕ)) (cs : List ℕ) (n : Layout) (opening : opened_of 
 
   -- a list that is p+q long, beside the two sections
   module _ (long : length cs ≡ n.shape.pins) (m : Sections) (held : Held s n m) where
-    pub counted : (m.shape.top ≡ length (terminals_in m.top.now)) × (length cs ≡ m.shape.top + length (terminals_in m.bottom.now))
-    counted =
+    pub beside : Beside m cs
+    beside =
+        let sound = read-sound s.now (sheet_of s.now) laws.reads in
         let shape = held_shape s n laws m held in
         let p = ap (λ (f : Shape). f.top) shape in
-        (p, omega (arith, long, p, ap (λ (f : Shape). f.pins) shape, ap (λ (f : Shape). f.pins) held.shape))
+        let pins = ap (λ (f : Shape). f.pins) shape in
+        let given = ap (λ (f : Shape). f.pins) held.shape in
+        let length = ap (λ (f : Shape). f.columns) (held.shape ∙ laws.shape) in
+        record {
+          tops = p;
+          long = omega (arith, long, pins, p, given);
+          few = omega (arith, long, ap (λ (f : Shape). f.pins) laws.shape, sound.counts);
+          short = omega (arith, length, sound.columns);
+        }
 
     pub columns-checked : (r : Result Layout ListRefusal) → r ≡ columns_listed (sheet_held m) cs n → r ≡ listed_of b cs
     unfolding sheet_listed

@@ -7,14 +7,15 @@ use Rattle.channel.specs.Assignment.{is_assignment}
 use Rattle.soundness.specs.Read.{sheet_of}
 use Rattle.sheet.specs.declared.Layout.{Layout}
 use Rattle.sheet.specs.declared.Shape.{Shape}
-use Rattle.sheet.specs.declared.Sections.{Sections}
-use Rattle.sheet.specs.Sections.{Held, sheet_held, Beside}
+use Rattle.sheet.specs.Sections.{sheet_held}
 use Rattle.std.specs.Borrow.{Bor}
-use Rattle.soundness.proofs.Laws.{read-sound}
 use Rattle.sheet.specs.Parts.{opened_of}
-use Rattle.sheet.proofs.Laws.{Opens, opens, held_sheet, held_shape}
+use Rattle.sheet.proofs.Laws.{Opens, opens, held_sheet}
 use Rattle.list.specs.Answer.{all_allowed, is_zero, first_amount, columns_listed, sheet_listed, listed_as, listed_of}
+use Rattle.list.specs.Listed.{GivesListed}
+use Rattle.list.specs.declared.listed.ListedSheet.{ListedSheet}
 use Rattle.list.specs.Returned.{number_of}
+use Rattle.refusals.specs.declared.ListRefusal.{ListRefusal}
 use Rattle.refusals.specs.declared.Refusal.{Refusal}
 use Rattle.list.proofs.Returned.{one_list, assignment_long, tests-passed}
 
@@ -50,26 +51,29 @@ assigns b cs n h =
       assigned = holds;
     }
 
--- beside the sections of its sheet
-module _ (s : Bor (List ℕ)) (cs : List ℕ) (n : Layout) (answer : listed_of s.now cs ≡ Ok n) (m : Sections) (held : Held s n m) where
-  laws : Assigns s.now cs n
-  laws = assigns s.now cs n answer
+-- an assignment that was given beside the sections of its sheet
+pub record Given (s columns : Bor (List ℕ)) (m : ListedSheet) : Type 0 where
+  pub layout : Layout
+  pub answer : listed_of s.now columns.now ≡ Ok layout
+  pub own : m.columns ≡ columns
+  pub laws : Assigns s.now columns.now layout
+  pub same : sheet_held m.sections ≡ sheet_of s.now
 
-  pub same : sheet_held m ≡ sheet_of s.now
-  same = held_sheet s n laws.opens m held
+module _ (s columns : Bor (List ℕ)) where
+  pub given : (m : ListedSheet) → GivesListed s columns (listed_of s.now columns.now) (Ok m) → Given s columns m
+  given m = by-answer (listed_of s.now columns.now) refl
+    where
+      by-answer :
+          (l : Result Layout ListRefusal) → listed_of s.now columns.now ≡ l → GivesListed s columns l (Ok m) → Given s columns m
+      by-answer (Ok n) e (held, own) =
+          let laws = assigns s.now columns.now n e in
+          record { layout = n; answer = e; own = own; laws = laws; same = held_sheet s n laws.opens m.sections held }
+      by-answer (Err why) e h = absurd h
 
-  pub beside : Beside m cs
-  beside =
-      let sound = read-sound s.now (sheet_of s.now) laws.opens.reads in
-      let shape = held_shape s n laws.opens m held in
-      let p = ap (λ (f : Shape). f.top) shape in
-      let pins = ap (λ (f : Shape). f.pins) shape in
-      let given = ap (λ (f : Shape). f.pins) held.shape in
-      let whole = laws.opens.shape in
-      let length = ap (λ (f : Shape). f.columns) (held.shape ∙ whole) in
-      record {
-        tops = p;
-        long = omega (arith, laws.long, pins, p, given);
-        few = omega (arith, laws.long, ap (λ (f : Shape). f.pins) whole, sound.counts);
-        short = omega (arith, length, sound.columns);
-      }
+  pub refused :
+      (why : ListRefusal) → GivesListed s columns (listed_of s.now columns.now) (Err why) → listed_of s.now columns.now ≡ Err why
+  refused why = by-answer (listed_of s.now columns.now)
+    where
+      by-answer : (l : Result Layout ListRefusal) → GivesListed s columns l (Err why) → l ≡ Err why
+      by-answer (Ok n) h = absurd h
+      by-answer (Err other) e = ap Err (sym e)

@@ -1,3 +1,2 @@
 pub mod LoadOf
-pub mod Sections
 pub mod Table

@@ -10,6 +10,7 @@ ghost use Rattle.nets.specs.Nets.{nets_in};
 ghost use Rattle.places.specs.Places.{AsksPlaces, Listed};
 
 use arrays::{LoadTable, Loads};
+use arrayvec::ArrayVec;
 use cut::{Cut, loads_at, stand_at};
 use nets::all_nets;
 use places::{NetPlaces, list_places};
@@ -88,9 +89,7 @@ pub fn read_loads(top: &[u8], bottom: &[u8], loads: &mut LoadTable)
     requires { (length (terminals_in top.now) ≤ 64) × (length (terminals_in bottom.now) ≤ 64) }
     ensures { LoadsRead (nets_in top.now) (nets_in bottom.now) loads.old.bytes loads.new.bytes }
 {
-    let mut nets: [u16; 128] = [0; 128];
-    let p = format::count_in(top);
-    let n = p + format::count_in(bottom);
-    all_nets(top, bottom, p, &mut nets[..n]);
-    tabulate(&nets[..n], p, loads);
+    let mut nets: ArrayVec<u16, 128> = ArrayVec::new();
+    all_nets(top, bottom, &mut nets);
+    tabulate(&nets, format::count_in(top), loads);
 }

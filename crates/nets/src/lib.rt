@@ -1,43 +1,41 @@
 // The nets of a sheet's terminals.
 #![tactic(auto)]
 
-ghost use Rattle.std.specs.Prelude.{◌≡◌, ◌++◌, ◌+◌, length, drop, eqb};
+ghost use Rattle.std.specs.Prelude.{◌≡◌, ◌++◌, ◌+◌, ◌≤◌, length, eqb};
 ghost use Rattle.channel.specs.Density.{any};
 ghost use Rattle.channel.specs.Cut.{nets as nets_of};
 ghost use Rattle.format.specs.Parts.{terminals_in};
 
-use format::terminal_at;
+use arrayvec::ArrayVec;
+use format::Terminals;
 
 // The nets of all terminals, top then bottom.
-pub fn all_nets(top: &[u8], bottom: &[u8], p: usize, nets: &mut [u16])
-    requires { (p ≡ length (terminals_in top.now)) × (length nets.old ≡ p + length (terminals_in bottom.now)) }
-    ensures { nets.new ≡ nets_of (terminals_in top.now ++ terminals_in bottom.now) }
+pub fn all_nets<const N: usize>(top: &[u8], bottom: &[u8], nets: &mut ArrayVec<u16, N>)
+    requires { length (terminals_in top.now) + length (terminals_in bottom.now) ≤ N }
+    ensures { nets.new.items ≡ nets_of (terminals_in top.now ++ terminals_in bottom.now) }
 {
-    fill_nets(top, &mut nets[..p]);
-    fill_nets(bottom, &mut nets[p..]);
+    nets.clear();
+    push_nets(top, nets);
+    push_nets(bottom, nets);
 }
 
-// The nets of a section, in order.
-fn fill_nets(part: &[u8], nets: &mut [u16])
-    requires { length nets.old ≡ length (terminals_in part.now) }
-    ensures { nets.new ≡ nets_of (terminals_in part.now) }
+// The nets of a section, in order, behind those that are there.
+fn push_nets<const N: usize>(part: &[u8], nets: &mut ArrayVec<u16, N>)
+    requires { length nets.old.items + length (terminals_in part.now) ≤ N }
+    ensures { nets.new.items ≡ nets.old.items ++ nets_of (terminals_in part.now) }
 {
-    // by place: of what is stored over a `zip` of `iter_mut` no proof knows anything
-    for (i, net) in nets.iter_mut().enumerate() {
-        *net = terminal_at(part, i).net;
+    for record in Terminals::new(part) {
+        nets.push(record.net);
     }
 }
 
-// Whether a net occurs from a place on. The loop has no branch, so that the compiler can take many pins at a time; std's `contains` goes
-// by another equality of numbers, and what it promises takes a longer proof.
-pub fn occurs(net: u16, nets: &[u16], from: usize) -> bool
-    ensures { result ≡ any (eqb net) (drop from nets.now) }
+// Whether a net occurs. The fold has no branch, so that the compiler can take many pins at a time; std's `contains` goes by another
+// equality of numbers, and what it promises takes a longer proof.
+pub fn occurs(net: u16, nets: &[u16]) -> bool
+    ensures { result ≡ any (eqb net) nets.now }
 {
-    let mut found = false;
-    for other in &nets[from.min(nets.len())..] {
-        found |= net == *other;
-    }
-    found
+    nets.iter()
+        .fold(false, |found, other| found | (net == *other))
 }
 
 // The nets of a list that are still to come: each once, where it occurs last.
@@ -60,7 +58,7 @@ impl<'a> Iterator for Distinct<'a> {
         // no `for`: what is left stays in the iterator
         while let Some((net, rest)) = self.left.split_first() {
             self.left = rest;
-            if !occurs(*net, rest, 0) {
+            if !occurs(*net, rest) {
                 return Some(*net);
             }
         }

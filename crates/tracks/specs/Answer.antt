@@ -1,12 +1,11 @@
 -- What the tracks of a column list are, or why there are none (document 02, T-04).
 -- Assumes nothing.
-use Rattle.std.specs.Prelude.{ℕ, ◌≤◌, ◌≡◌, List, ◌++◌, cond, length, take, drop, ltb, Result, Ok, Err}
+use Rattle.std.specs.Prelude.{ℕ, ◌≡◌, List, ◌++◌, cond, length, take, drop, ltb, Result, Ok, Err}
 use Rattle.channel.specs.Sheet.{Sheet}
 use Rattle.channel.specs.Density.{Pin, pins}
 use Rattle.channel.specs.Cut.{nets}
 use Rattle.soundness.specs.Read.{sheet_of}
 use Rattle.left_edge.specs.declared.Span.{Span}
-use Rattle.left_edge.specs.Lists.{Each}
 use Rattle.left_edge.specs.Method.{greatest}
 use Rattle.left_edge.specs.Spans.{spans_in, spans_of, two_nets}
 use Rattle.list.specs.Answer.{listed_of}
@@ -15,8 +14,6 @@ use Rattle.tracked.specs.declared.TrackRefusal.{TrackRefusal}
 use Rattle.tracked.specs.declared.TrackRefusal.TheVariants.{Listed, TwoNets, SpanBuffer}
 use Rattle.tracked.specs.declared.Routed.{Routed}
 use Rattle.sheet.specs.declared.Layout.{Layout}
-use Rattle.sheet.specs.declared.Sections.{Sections}
-use Rattle.sheet.specs.Sections.{Beside}
 use Rattle.refusals.specs.declared.ListRefusal.{ListRefusal}
 use Rattle.tracked.specs.Numbers.{count_of}
 use Rattle.tracked.specs.Routed.{counts_in, spans_given}
@@ -58,9 +55,3 @@ GivesIn l ps ns room r = Gives (answer_for ps room (spans_in l ps ns)) (spans_in
 -- of an assignment of a sheet
 abbrev pub GivesFor : Sheet → List ℕ → ℕ → Result Routed TrackRefusal → Type 0
 GivesFor s cs room r = GivesIn s.columns (pins (s.top ++ s.bottom) cs) (nets (s.top ++ s.bottom)) room r
-
--- an assignment beside the sections of its sheet
-pub record AsksTracks (m : Sections) (columns : List ℕ) : Type 0 where
-  pub beside : Beside m columns
-  pub some : 1 ≤ m.shape.columns
-  pub inside : Each (λ (c : ℕ). (1 ≤ c) × (c ≤ m.shape.columns)) columns

@@ -10,16 +10,15 @@ ghost use Rattle.left_edge.specs.Lists.{Each};
 ghost use Rattle.left_edge.specs.Spans.{spans_of, two_nets};
 ghost use Rattle.order.specs.Keys.{Columns};
 ghost use Rattle.sheet.specs.Sections.{sheet_held};
-ghost use Rattle.tracks.specs.Answer.{Gives, GivesIn, GivesFor, AsksTracks, tracked_of};
+ghost use Rattle.tracks.specs.Answer.{Gives, GivesIn, GivesFor, tracked_of};
 ghost use Rattle.tracked.specs.Routed.{routed_of};
 
 use arrayvec::ArrayVec;
 use ends::PinList;
 use left_edge::Span;
+use list::ListedSheet;
 use method::route_keys;
-use nets::all_nets;
 use order::order_nets;
-use sheet::Sections;
 use tracked::{Routed, TrackRefusal};
 
 // Gives the nets of a column list their tracks: 1 to 8 of the sheet, 12, 13 and 14 of the list, then 18 where a column has pins of two nets
@@ -28,36 +27,25 @@ pub fn route(s: &[u8], columns: &[u8], room: usize) -> Result<Routed, TrackRefus
     ensures { Gives (tracked_of s.now columns.now room)
         (spans_of (sheet_of s.now) columns.now) result }
 {
-    let layout = list::check(s, columns)?;
+    let listed = list::check(s, columns)?;
     let mut spans = ArrayVec::new();
-    let tracks = route_columns(layout.sections(s), columns, room, &mut spans)?;
+    let tracks = route_columns(listed, room, &mut spans)?;
     Ok(Routed { spans, tracks })
 }
 
-// 18 and 9 of an assignment, from the sections of its sheet; else the spans, and how many tracks they take. The spans are lent room, as
+// 18 and 9 of an assignment, beside the sections of its sheet; else the spans, and how many tracks they take. The spans are lent room, as
 // a vector that is given is copied on its way.
 fn route_columns(
-    sections: Sections,
-    columns: &[u8],
+    listed: ListedSheet,
     room: usize,
     spans: &mut ArrayVec<Span, 128>,
 ) -> Result<u16, TrackRefusal>
-    requires { AsksTracks sections columns.now }
-    ensures { GivesFor (sheet_held sections.entry) columns.now room (routed_of spans.new result) }
+    requires { Columns listed.columns.now listed.sections.shape.columns }
+    ensures { GivesFor (sheet_held listed.entry.sections) listed.entry.columns.now room (routed_of spans.new result) }
 {
-    let n = columns.len();
-    let mut nets: [u16; 128] = [0; 128];
-    all_nets(
-        sections.top,
-        sections.bottom,
-        sections.shape.top,
-        &mut nets[..n],
-    );
-    let pins = PinList {
-        nets: &nets[..n],
-        columns,
-    };
-    route_nets(pins, sections.shape.columns as u8, room, spans)
+    let mut nets = ArrayVec::new();
+    let pins = listed.pins(&mut nets);
+    route_nets(pins, listed.sections.shape.columns as u8, room, spans)
 }
 
 // The same from the pins.

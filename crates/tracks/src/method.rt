@@ -40,8 +40,8 @@ fn span_on(x: Interval, track: u16) -> Span
 }
 
 // Puts an interval on the lowest free track, and says which; 0 where it crosses no column.
-fn take_track(x: Interval, ends: &mut [u8]) -> u16
-    requires { (passed ends.old x.left < length ends.old) × (length ends.old ≤ 128) }
+fn take_track(x: Interval, ends: &mut [u8; 128]) -> u16
+    requires { passed ends.old x.left < 128 }
     ensures track { result ≡ track_on ends.old x }
     ensures ends { ends.new ≡ step ends.old x }
 {
@@ -54,8 +54,8 @@ fn take_track(x: Interval, ends: &mut [u8]) -> u16
 }
 
 // The first track that ends left of a column, counted from 0.
-fn free_track(ends: &[u8], left: u8) -> usize
-    requires { passed ends.now left < length ends.now }
+fn free_track(ends: &[u8; 128], left: u8) -> usize
+    requires { passed ends.now left < 128 }
     ensures { result ≡ passed ends.now left }
 {
     ends.iter().take_while(|end| left <= **end).count()

@@ -1,5 +1,4 @@
-use Rattle.std.proofs.Common.{rules, ℕ, length, ap, ◌∙◌}
-use Rattle.std.proofs.Math.ListN.{length-replicate}
+use Rattle.std.proofs.Common.{rules}
 use Rattle.nets.specs.Distinct.{nets_left}
 use Rattle.density.proofs.Sums.{counted_none, counts_small, counted-more}
 use Rattle.density.proofs.count_nets.Goals as goal
@@ -7,18 +6,15 @@ use Rattle.density.proofs.count_nets.Goals as goal
 pub loop-net-init : goal.loop-net-init
 loop-net-init c =
     let start = counted_none c.args.pins.nets.now c.args.pins.columns.now 256 c.args.counts.now c.requires.1 in
-    let size = ap length c.requires.1 ∙ length-replicate {A = ℕ} 256 0 in
     search rules
 
 pub count_net-requires : goal.count_net-requires
 count_net-requires c =
     let l = c.loop-net in
-    let (size, counted) = l.invariant in
-    (size, counts_small c.args.pins.nets.now c.args.pins.columns.now (nets_left l.net-iterator) l.counts counted c.requires.0)
+    counts_small c.args.pins.nets.now c.args.pins.columns.now (nets_left l.net-iterator) l.counts l.invariant c.requires.0
 
 pub loop-net-preserved : goal.loop-net-preserved
 loop-net-preserved c =
     let l = c.loop-net in
-    let more = counted-more c.args.pins.nets.now c.args.pins.columns.now (nets_left l.net-iterator) l.counts l.invariant.1 c.in-Some.net
-    (nets_left c.next.new.self) _ c.in-Some.ensures.steps c.count_net.ensures in
-    search rules
+    counted-more c.args.pins.nets.now c.args.pins.columns.now (nets_left l.net-iterator) l.counts l.invariant c.in-Some.net
+    (nets_left c.next.new.self) _ c.in-Some.ensures.steps c.count_net.ensures

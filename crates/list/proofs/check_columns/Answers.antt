@@ -10,9 +10,9 @@ returns-then-not-is_allowed c =
     λ n.
     elim c.then-not-is_allowed.branch [
       | then-not-is_allowed-via-then-not-is_allowed w ↦
-          top-refused _ _ _ _ n _ c.requires.0 (sym c.is_allowed.ensures ∙ w.if-not-is_allowed.true)
+          top-refused _ _ _ _ n _ c.args.listed.beside.tops (sym c.is_allowed.ensures ∙ w.if-not-is_allowed.true)
       | then-not-is_allowed-via-else-not-is_allowed+then-not-is_allowed-2 w ↦
-          bottom-refused _ _ _ _ n _ c.requires.0 (sym c.is_allowed.ensures ∙ w.if-not-is_allowed.false)
+          bottom-refused _ _ _ _ n _ c.args.listed.beside.tops (sym c.is_allowed.ensures ∙ w.if-not-is_allowed.false)
           (sym w.is_allowed-else-not-is_allowed.ensures ∙ w.if-not-is_allowed-2.true)
     ]
 
@@ -20,7 +20,7 @@ pub returns-in-Some : goal.returns-in-Some
 returns-in-Some c =
     λ n.
     let e =
-    distance-refused c.args.sections.shape.columns _ _ _ n _ c.requires.0
+    distance-refused c.args.listed.sections.shape.columns _ _ _ n _ c.args.listed.beside.tops
     (sym c.is_allowed.ensures ∙ c.if-not-is_allowed.false)
     (sym c.is_allowed-else-not-is_allowed.ensures ∙ c.if-not-is_allowed-2.false)
     c.in-Some.amount (sym c.in-Some.ensures) in
@@ -29,7 +29,7 @@ returns-in-Some c =
 pub returns-in-None : goal.returns-in-None
 returns-in-None c =
     λ n.
-    listed _ _ _ _ n _ c.requires.0
+    listed _ _ _ _ n _ c.args.listed.beside.tops
     (sym c.is_allowed.ensures ∙ c.if-not-is_allowed.false)
     (sym c.is_allowed-else-not-is_allowed.ensures ∙ c.if-not-is_allowed-2.false)
     (sym c.in-None.ensures)

@@ -1,11 +1,13 @@
-use Rattle.std.proofs.Common.{sym}
-use Rattle.list.proofs.Laws.{beside}
-use Rattle.measure.proofs.Measures.{density_counted}
+-- `measure::measure` meets its contract: what the list's check refuses, then the density of an assignment.
+-- Assumes nothing.
+use Rattle.std.proofs.Common.{rules}
+use Rattle.measure.proofs.Measures.{list_refused, density_counted}
 use Rattle.measure.proofs.measure.Goals as goal
 
-pub list_density-requires : goal.list_density-requires
-list_density-requires c = beside c.args.s c.args.columns.now _ (sym c.in_ok-layout.ensures) _ c.sections-sections.ensures
+pub returns-in_err-check : goal.returns-in_err-check
+returns-in_err-check c =
+    let e = list_refused c.args.s c.args.columns _ (rw c.in_err-check.was at c.check.ensures) in
+    search rules
 
 pub returns : goal.returns
-returns c =
-    density_counted c.args.s c.args.columns.now _ (sym c.in_ok-layout.ensures) _ c.sections-sections.ensures _ c.list_density.ensures
+returns c = density_counted c.args.s c.args.columns _ (rw c.in_ok-check.was at c.check.ensures) _ c.list_density.ensures

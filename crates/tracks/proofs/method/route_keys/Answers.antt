@@ -9,11 +9,9 @@ loop-key-init c =
 
 pub take_track-track-requires : goal.take_track-track-requires
 take_track-track-requires c =
-    let p = c.loop-key.invariant in (
-      free c.args.keys.now c.requires.0 c.requires.1 p (omega arith) c.interval_at-x.result
-          c.interval_at-x.ensures,
-      omega (arith, p.slots),
-    )
+    let p = c.loop-key.invariant in
+    let free = free c.args.keys.now c.requires.0 c.requires.1 p (omega arith) c.interval_at-x.result c.interval_at-x.ensures in
+    omega (arith, free, p.slots)
 
 pub loop-key-preserved : goal.loop-key-preserved
 loop-key-preserved c =
