@@ -28,7 +28,7 @@ put_module-requires c =
     let ms = modules_left l.m-iterator in
     let side = modules_in c.args.side.now in (
       writable.0,
-      l.invariant.2,
+      omega (arith, l.invariant.2),
       omega (
         arith,
         l.invariant.0.place,
