@@ -4,10 +4,10 @@ use Rattle.std.proofs.Common.{rules}
 use Rattle.measure.proofs.Measures.{list_refused, density_counted}
 use Rattle.measure.proofs.measure.Goals as goal
 
-pub returns-in_err-check : goal.returns-in_err-check
-returns-in_err-check c =
-    let e = list_refused c.args.s c.args.columns _ (rw c.in_err-check.was at c.check.ensures) in
+pub returns-in_err-listed : goal.returns-in_err-listed
+returns-in_err-listed c =
+    let e = list_refused c.args.s c.args.columns _ (rw c.in_err-listed.was at c.check.ensures) in
     search rules
 
 pub returns : goal.returns
-returns c = density_counted c.args.s c.args.columns _ (rw c.in_ok-check.was at c.check.ensures) _ c.list_density.ensures
+returns c = density_counted c.args.s c.args.columns _ (rw c.in_ok-listed.was at c.check.ensures) _ c.list_density.ensures
