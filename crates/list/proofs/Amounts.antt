@@ -1,7 +1,8 @@
 -- Laws of amounts: which are given, and which is the first that is not 0.
 -- Assumes nothing.
 use Rattle.std.proofs.Common.{◌≡◌, zero, suc, true, false, ◌&&◌, ℤ, pos, negsuc, Some, None, is_some, sym, refl, ap, true≢false}
-use Rattle.list.specs.Answer.{is_zero, first_of, out_of_range}
+use Rattle.terminal.specs.Amount.{is_zero, out_of_range}
+use Rattle.list.specs.Answer.{first_of}
 
 -- an amount that is there is not 0, and one that is not there is
 pub some_amount : (z found : ℤ) → out_of_range z ≡ Some found → (is_zero z ≡ false) × (z ≡ found)

@@ -14,10 +14,11 @@ use Rattle.sheet.specs.Sections.{Held, sheet_held, Beside}
 use Rattle.std.specs.Borrow.{Bor}
 use Rattle.sheet.specs.Parts.{opened_of}
 use Rattle.sheet.proofs.Laws.{Opens, opens, held_sheet, held_shape}
-use Rattle.list.specs.Answer.{side_allowed, all_allowed, out_of_range, first_of, side_amount, first_amount}
+use Rattle.terminal.specs.Amount.{is_zero, out_of_range}
+use Rattle.list.specs.Answer.{side_allowed, all_allowed, first_of, side_amount, first_amount}
 use Rattle.list.specs.Listed.{GivesListed}
 use Rattle.list.specs.declared.listed.ListedSheet.{ListedSheet}
-use Rattle.list.specs.Answer.{is_zero, unless, columns_listed, sheet_listed, listed_of}
+use Rattle.list.specs.Answer.{unless, columns_listed, sheet_listed, listed_of}
 use Rattle.refusals.specs.declared.ListRefusal.{ListRefusal}
 use Rattle.list.proofs.Amounts.{some_amount, none_amount}
 

@@ -11,7 +11,8 @@ use Rattle.sheet.specs.Sections.{sheet_held}
 use Rattle.std.specs.Borrow.{Bor}
 use Rattle.sheet.specs.Parts.{opened_of}
 use Rattle.sheet.proofs.Laws.{Opens, opens, held_sheet}
-use Rattle.list.specs.Answer.{all_allowed, is_zero, first_amount, columns_listed, sheet_listed, listed_as, listed_of}
+use Rattle.terminal.specs.Amount.{is_zero}
+use Rattle.list.specs.Answer.{all_allowed, first_amount, columns_listed, sheet_listed, listed_as, listed_of}
 use Rattle.list.specs.Listed.{GivesListed}
 use Rattle.list.specs.declared.listed.ListedSheet.{ListedSheet}
 use Rattle.list.specs.Returned.{number_of}

@@ -14,7 +14,8 @@ use Rattle.sheet.specs.declared.Layout.{Layout}
 use Rattle.sheet.specs.Parts.{layout_of}
 use Rattle.sheet.proofs.Laws.{read_opened, read_unopened}
 use Rattle.list.specs.Answer.{side_allowed, all_allowed, first_of, later_amount, side_amount, first_amount}
-use Rattle.list.specs.Answer.{is_zero, unless, columns_listed, sheet_listed, listed_of}
+use Rattle.terminal.specs.Amount.{is_zero}
+use Rattle.list.specs.Answer.{unless, columns_listed, sheet_listed, listed_of}
 use Rattle.list.specs.Returned.{number_of, amount_of, Long, Answers, Returned}
 use Rattle.refusals.specs.declared.ListRefusal.{ListRefusal}
 use Rattle.terminal.proofs.Laws.{zero_true, zero_false, zero_amount}

@@ -5,7 +5,7 @@ use Rattle.std.specs.Prelude.{ℕ, ◌+◌, List, [], ◌∷◌, Bool, true, fal
 use Rattle.channel.specs.Sheet.{Terminal, Sheet}
 use Rattle.channel.specs.Assignment.{allows, top_columns, bottom_columns}
 use Rattle.channel.specs.Distance.{amount}
-pub use Rattle.terminal.specs.Amount.{is_zero, out_of_range}
+use Rattle.terminal.specs.Amount.{is_zero}
 use Rattle.refusals.specs.declared.ListRefusal.{ListRefusal}
 use Rattle.refusals.specs.declared.ListRefusal.TheVariants.{Sheet as Unsound, Count, Allowed, Distance}
 use Rattle.soundness.specs.Read.{sheet_of}

@@ -1,7 +1,8 @@
 // What 13 and 14 ask of a list as long as the terminals.
 ghost use Rattle.std.specs.Prelude.{◌≡◌, length};
 ghost use Rattle.format.specs.Parts.{terminals_in};
-ghost use Rattle.list.specs.Answer.{side_allowed, first_of, side_amount, out_of_range};
+ghost use Rattle.terminal.specs.Amount.{out_of_range};
+ghost use Rattle.list.specs.Answer.{side_allowed, first_of, side_amount};
 
 use format::Terminals;
 

@@ -1,6 +1,7 @@
 use Rattle.std.proofs.Common.{List, sym, ap, ◌∙◌, ⊎_elim}
 use Rattle.channel.specs.Sheet.{Terminal}
-use Rattle.list.specs.Answer.{later_amount, out_of_range}
+use Rattle.terminal.specs.Amount.{out_of_range}
+use Rattle.list.specs.Answer.{later_amount}
 use Rattle.list.proofs.Sides.{later_end}
 use Rattle.list.proofs.rules.ListedSide.amount.Goals as goal
 
