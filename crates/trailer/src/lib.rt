@@ -31,7 +31,8 @@ pub fn has_mark(s: &[u8], mark: &[u8; 2]) -> bool
     s.ends_with(mark)
 }
 
-// The trailer's numbers, from its bytes at the end, and all 0 where the file is shorter than a trailer.
+// The trailer's numbers, from its bytes at the end, and all 0 where the file is shorter than a trailer: this call cannot fail, and `form`
+// tests the length first.
 pub fn read_trailer(s: &[u8]) -> Trailer
     ensures { TrailerRead s.now result }
 {
