@@ -57,7 +57,7 @@ fn nothing(why: SearchRefusal) -> Expected<'static> {
     }
 }
 
-// The work cells that a search needs.
+// The work cells that a search needs: the program's own reading, since it asks the library nothing that it checks by it.
 fn cells_of(sheet: &Sheet) -> usize
     ensures { result ≤ 4294967296 }
 {

@@ -68,7 +68,8 @@ pub fn count_in(part: &[u8]) -> usize
     part.len() / RECORD
 }
 
-// The record of terminal i, from 0, of a section, and all 0 where there is none.
+// The record of terminal i, from 0, of a section, and all 0 where there is none: this call cannot fail, and `sheet::record_in` says of a
+// place whether it has a record.
 pub fn terminal_at(part: &[u8], i: usize) -> Record
     ensures { result ≡ record_of (get_or (terminals_in part.now) i no_terminal) }
 {

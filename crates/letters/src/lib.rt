@@ -48,7 +48,7 @@ fn has_top_pin(letter: Letter, i: usize) -> bool
     0 < i && matches!(letter, Letter::Top | Letter::Both)
 }
 
-// Whether it has a bottom pin, of j that are left.
+// Whether it has a bottom pin, of j that are left. One function for both sides would be told which, and be no shorter.
 fn has_bottom_pin(letter: Letter, j: usize) -> bool
     ensures { result ≡ has_bottom_pin (letter_number letter) j }
 {

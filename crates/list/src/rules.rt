@@ -27,7 +27,7 @@ impl<'a> ListedSide<'a> {
         true
     }
 
-    // 14: the amount of the first distance that is out of range. The scan stops at the first bad pair.
+    // 14: the amount of the first distance that is out of range.
     fn amount(self) -> Option<i16>
         ensures { result ≡ out_of_range (side_amount (terminals_in self.entry.part.now) self.entry.columns.now) }
     {

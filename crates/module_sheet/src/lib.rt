@@ -80,11 +80,7 @@ fn put_sheet(out: &mut [u8], columns: usize, top: CountedSide, bottom: CountedSi
 pub fn make(columns: usize, top: &[u8], bottom: &[u8], sheet: &mut [u8]) -> Made
     ensures { Makes columns top.now bottom.now sheet.old sheet.new result }
 {
-    // two tests with one answer: each is a case of its own in the proof
-    if columns == 0 {
-        return Err(ModuleRefusal::Sheet(Refusal::Length));
-    }
-    if 64 < columns {
+    if columns == 0 || 64 < columns {
         return Err(ModuleRefusal::Sheet(Refusal::Length));
     }
     let over = check_modules(top, columns);

@@ -16,13 +16,13 @@ pub struct Pin {
 }
 
 // The pins of a module that are still to come: their bytes.
-#[derive(Clone, Copy)]
+#[derive(Clone, Copy, Default)]
 pub struct Pins<'a> {
     left: &'a [u8],
 }
 
 // A module: its width, its set of allowed left edges and its pins.
-#[derive(Clone, Copy)]
+#[derive(Clone, Copy, Default)]
 pub struct Module<'a> {
     pub width: u8,
     pub edges: u64,
@@ -50,6 +50,7 @@ impl<'a> Pins<'a> {
     }
 }
 
+// `format::Terminals` differs in size and item. A trait for the two, with bodies of three lines, would be longer than both.
 impl<'a> Iterator for Pins<'a> {
     ghost use Rattle.std.specs.Iterator.{YieldsFirst, item_count};
     ghost use Rattle.modules.specs.Left.{pins_left};
@@ -127,10 +128,5 @@ fn whole_module(list: &[u8]) -> Option<(Module<'_>, &[u8])>
 fn first_module(list: &[u8]) -> (Module<'_>, &[u8])
     ensures { IsFirst list.now result.0 result.1.now }
 {
-    let cut = Module {
-        width: 0,
-        edges: 0,
-        pins: Pins { left: &[] },
-    };
-    whole_module(list).unwrap_or((cut, &[]))
+    whole_module(list).unwrap_or_default()
 }

@@ -11,7 +11,7 @@ use Rattle.table.specs.Planes.{Filled, held_at, meeting}
 use Rattle.bound.specs.LowerBound.{lower_bound}
 use Rattle.bound.proofs.LowerBound.{cell-none}
 use Rattle.pass.specs.declared.Plan.{Plan}
-use Rattle.pass.specs.Pass.{feasible_in, Rising, Least, table_end}
+use Rattle.pass.specs.Pass.{feasible_in, Rising, table_end}
 use Rattle.walk.specs.Walk.{ones}
 
 -- the question to the last plane of a filled table is whether all pins can be placed
@@ -79,9 +79,6 @@ between_more f rises low high middle true h g e b =
     record { order = h; top = omega (arith, b.top); holds = sym e; below = b.below }
 between_more f rises low high middle false h g e b =
     record { order = omega arith; top = b.top; holds = b.holds; below = λ k l. fails_below f rises k middle (omega arith) (sym e) }
-
-pub between_end : (f : ℕ → Bool) (low high : ℕ) → high ≤ low → Between f low high → Least f high
-between_end f low high h b = record { holds = b.holds; smaller = λ e l. b.below e (omega (arith, b.order)) }
 
 -- what lies between falls
 pub between_falls :

@@ -40,7 +40,7 @@ pub trait Reason {
         ensures { result ≡ number self };
 }
 
-// A refusal that may be 14, with the columns by which a distance is out of range; 0 with any other.
+// A refusal that may be 14, with the columns by which a distance is out of range; 0 with any other, as C gets it.
 pub trait HasAmount {
     ghost amount: { Self → ℤ };
 

@@ -37,7 +37,7 @@ impl Case<'_> {
     }
 }
 
-// The spans that the library gives, as far as there is room for them.
+// The spans that the library gives, as far as there is room for them, in the type of `enumeration`, which asks the library nothing.
 fn first_spans(all: &[left_edge::Span]) -> Spans {
     let mut spans = ArrayVec::new();
     for span in &all[..all.len().min(ROOM)] {

@@ -169,7 +169,8 @@ impl Next<'_> {
     }
 }
 
-// The columns that are at least so many behind one.
+// The columns that are at least so many behind one. This and `up_to` are the program's own reading of a distance pair, since it asks the
+// library nothing that it checks by it.
 fn from(before: u8, least: u8) -> u64 {
     match before.saturating_add(least) {
         0 => u64::MAX,

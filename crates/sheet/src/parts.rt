@@ -65,7 +65,7 @@ fn cells_needed(columns: usize, p: usize, q: usize) -> usize
     (p + 1) * (q + 1) * plane
 }
 
-// The shape of a sound sheet, and all 0 for a refused one.
+// The shape of a sound sheet, and all 0 for a refused one: `cazdrob_cells` gives this 0 (document 01), and the call cannot fail.
 pub fn shape_of(s: &[u8]) -> Shape
     ensures { result ≡ shape_of s.now }
 {
@@ -85,7 +85,7 @@ fn of_side(top: Part, bottom: Part, side: Side) -> Part
     }
 }
 
-// One side's section of a sound sheet, as a part of the sheet; the empty part for a refused sheet.
+// One side's section of a sound sheet, as a part of the sheet; the empty part for a refused sheet, as this call cannot fail either.
 pub fn section(s: &[u8], side: Side) -> &[u8]
     ensures { OwnPart s.entry result (section_at s.now side) (section_of s.now side) }
 {

@@ -314,7 +314,3 @@ pub filled_none :
     (rules loads : List ℕ) (bound : ℕ) (g : Grid) (i j end : ℕ) (work : List ℕ) → Earlier rules loads bound g i j work
     → Filled rules loads bound g i j end work work
 filled_none rules loads bound g i j end work h = record { kept = refl; behind = refl; gaps = λ k l. refl; cells = h }
-
-pub nothing_earlier : (rules loads : List ℕ) (bound : ℕ) (g : Grid) (work : List ℕ) → Earlier rules loads bound g 0 0 work
-nothing_earlier rules loads bound g work n m x y (inl l) hm hx hy = absurd (omega arith)
-nothing_earlier rules loads bound g work n m x y (inr (e, l)) hm hx hy = absurd (omega arith)

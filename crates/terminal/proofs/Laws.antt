@@ -1,6 +1,9 @@
 -- What a caller may use of the distance test: which amounts are 0, and that there is none exactly in range.
 -- Assumes nothing.
-use Rattle.std.proofs.Common.{◌≡◌, ℕ, zero, suc, Bool, true, false, ℤ, pos, negsuc, Option, is_some, not, sym, refl, ap, ◌∙◌, true≢false}
+use Rattle.std.proofs.Common.{◌≡◌, ℕ, zero, suc, ◌^◌, ◌<◌, Bool, true, false, ℤ, pos, negsuc, Option, is_some, not, sym, refl, ap, ◌∙◌, true≢false, to_z-of_z, w16, to_z, of_z}
+use Rattle.std.proofs.lemmas.Bool.{false_from_ne_true}
+use Rattle.std.specs.Int.Signed.{mag}
+use mir.Val.{hbits}
 use Rattle.channel.specs.Assignment.{in_range}
 use Rattle.channel.specs.Distance.{amount}
 use Rattle.channel.proofs.Distances.{amount_says}
@@ -34,8 +37,19 @@ module _ (least greatest before column : ℕ) {o : Option ℤ} (answer : o ≡ o
       none_zero (pos (suc n)) = refl
       none_zero (negsuc n) = refl
 
-  pub zero_within : is_some o ≡ false → in_range least greatest before column ≡ true
-  zero_within e = sym within ∙ ap not e
+  pub none_within : is_some o ≡ false → in_range least greatest before column ≡ true
+  none_within e = sym within ∙ ap not e
 
-  pub other_beyond : is_some o ≡ true → in_range least greatest before column ≡ false
-  other_beyond e = sym within ∙ ap not e
+  pub some_beyond : is_some o ≡ true → in_range least greatest before column ≡ false
+  some_beyond e = sym within ∙ ap not e
+
+-- sixteen bits that are all 0 hold 0
+pub zero_bits : {z : ℤ} → mag z < 2 ^ hbits w16 → of_z w16 z ≡ 0 → z ≡ pos 0
+zero_bits fits e = sym (to_z-of_z {w = w16} (record { sfits = fits })) ∙ ap (to_z w16) e
+
+module _ (least greatest before column : ℕ) {r : ℤ} (fits : mag r < 2 ^ hbits w16) (answer : r ≡ amount least greatest before column) where
+  pub zero_within : of_z w16 r ≡ 0 → in_range least greatest before column ≡ true
+  zero_within e = (amount_says least greatest before column).zero.0 (sym answer ∙ zero_bits fits e)
+
+  pub other_beyond : (of_z w16 r ≡ 0 → ⊥) → in_range least greatest before column ≡ false
+  other_beyond h = false_from_ne_true _ (λ e. h (ap (of_z w16) (answer ∙ (amount_says least greatest before column).zero.1 e)))

@@ -19,11 +19,7 @@ pub fn names_above(set: u64, columns: usize) -> bool
 pub fn allows(set: u64, column: u8) -> bool
     ensures { result ≡ allowed set column }
 {
-    // two tests with one answer: each is a case of its own in the proof
-    if column == 0 {
-        return false;
-    }
-    if 64 < column {
+    if column == 0 || 64 < column {
         return false;
     }
     (set >> (column - 1)) % 2 == 1

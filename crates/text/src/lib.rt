@@ -25,9 +25,8 @@ impl<'a> Writer<'a> {
         requires { HasRoom self.old (length text.now) }
         ensures { Writes self.old self.new text.now }
     {
-        for byte in text {
-            self.put_byte(*byte);
-        }
+        self.out[self.end..self.end + text.len()].copy_from_slice(text);
+        self.end += text.len();
     }
 
     // The decimal digits of a number, `most` of them at most. By hand, since `itoa` writes every digit: each caller would have to bound its

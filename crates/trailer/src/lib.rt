@@ -28,14 +28,11 @@ pub const TRAILER: usize = 12;
 pub fn has_mark(s: &[u8], mark: &[u8; 2]) -> bool
     ensures { result ≡ has_mark s.now mark.now }
 {
-    let n = s.len();
-    if n < 2 {
-        return false;
-    }
-    s[n - 2] == mark[0] && s[n - 1] == mark[1]
+    s.ends_with(mark)
 }
 
-// The trailer's numbers, from its bytes at the end, and all 0 where the file is shorter than a trailer.
+// The trailer's numbers, from its bytes at the end, and all 0 where the file is shorter than a trailer: this call cannot fail, and `form`
+// tests the length first.
 pub fn read_trailer(s: &[u8]) -> Trailer
     ensures { TrailerRead s.now result }
 {

@@ -1,6 +1,6 @@
 -- `module_sheet::make` meets its contract: a refusal leaves the buffer, and what is written is the sheet meant.
 -- Assumes nothing.
-use Rattle.std.proofs.Common.{length, sym, ap, arith, rules, le-leb}
+use Rattle.std.proofs.Common.{length, sym, ap, inl, inr, arith, rules, le-leb}
 use Rattle.std.proofs.lemmas.Bool.{lt-leb}
 use Rattle.modules.specs.Bytes.{modules_in}
 use Rattle.module_check.specs.declared.Tests.{Tests}
@@ -15,13 +15,12 @@ pub returns-then-columns-eq0 : goal.returns-then-columns-eq0
 unfolding answer_in
 returns-then-columns-eq0 c =
     let l = c.args.columns in
-    makes_none _ _ _ _ _ (rw (lt-leb 1 l (omega (arith, c.if-columns-eq0.true)))) (λ e. omega arith)
-
-pub returns-then-columns-gt64 : goal.returns-then-columns-gt64
-unfolding answer_in
-returns-then-columns-gt64 c =
-    let l = c.args.columns in
-    makes_none _ _ _ _ _ (rw (le-leb 1 l (omega (arith, c.if-columns-gt64.true)), lt-leb l 64 c.if-columns-gt64.true)) (λ e. omega arith)
+    makes_none _ _ _ _ _
+    (elim c.then-columns-eq0.either [
+      | inl zero ↦ rw (lt-leb 1 l (omega (arith, zero)))
+      | inr more ↦ rw (le-leb 1 l (omega (arith, more.1)), lt-leb l 64 more.1)
+    ])
+    (λ e. omega arith)
 
 -- a sheet is written only where nothing is refused
 pub put_sheet-requires : goal.put_sheet-requires

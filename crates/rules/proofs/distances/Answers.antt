@@ -1,7 +1,7 @@
 use Rattle.std.proofs.Common.{ℕ, ◌+◌, ◌∙◌, ap, Bool, not}
 use Rattle.channel.specs.Assignment.{in_range}
 use Rattle.bits.specs.Bits.{bit_of}
-use Rattle.terminal.proofs.Laws.{zero_within, other_beyond}
+use Rattle.terminal.proofs.Laws.{none_within, some_beyond}
 use Rattle.rules.proofs.Terminals.{collected_none, collected_taken, collected_left}
 use Rattle.rules.proofs.distances.Goals as goal
 use Rattle.rules.proofs.distances.Goals.{then-is_none, else-is_none}
@@ -17,10 +17,10 @@ loop-e-preserved c =
     elim c.if-is_none.branch [
       | then-is_none w ↦
           collected_taken within l.e l.found w.single.result c.if-is_none.found l.invariant
-          (zero_within a.least a.greatest 0 (l.e + 1) c.amount.ensures (c.is_none.ensures ∙ ap not w.if-is_none.true)) w.single.ensures
+          (none_within a.least a.greatest 0 (l.e + 1) c.amount.ensures (c.is_none.ensures ∙ ap not w.if-is_none.true)) w.single.ensures
           (λ k. ap (λ (v : ℕ). bit_of v k) w.found-is ∙ w.either-found.ensures k)
       | else-is_none w ↦
           rw w.found-is
           (collected_left within l.e l.found l.invariant
-          (other_beyond a.least a.greatest 0 (l.e + 1) c.amount.ensures (c.is_none.ensures ∙ ap not w.if-is_none.false)))
+          (some_beyond a.least a.greatest 0 (l.e + 1) c.amount.ensures (c.is_none.ensures ∙ ap not w.if-is_none.false)))
     ]
