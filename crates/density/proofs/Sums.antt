@@ -11,7 +11,7 @@ use Rattle.channel.proofs.Spans.{spans-from}
 use Rattle.channel.specs.Spans.{sum_last, leftmost, rightmost}
 use Rattle.ends.specs.declared.Ends.{Ends}
 use Rattle.ends.specs.Ends.{pins_of, ends_of}
-use Rattle.nets.proofs.Nets.{get_or-zeros}
+use Rattle.nets.proofs.Lists.{get_or-zeros}
 use Rattle.density.specs.Counted.{net_spans, counted_at, Added, Small, within}
 
 -- the crossings of a column by the nets of a list, each of which stands there once

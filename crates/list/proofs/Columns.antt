@@ -1,6 +1,6 @@
 -- The check of a column list, from what the sheet layer and the two tests answer.
 -- Assumes nothing.
-use Rattle.std.proofs.Common.{◌≡◌, ℕ, ◌+◌, ◌-◌, ◌≤◌, true, false, ◌&&◌, List, length, take, drop, ℤ, Some, None, Ok, Err, Result, sym, refl, ap, ◌∙◌, arith, length-drop, take_all, eq-eqb, ne_eqb}
+use Rattle.std.proofs.Common.{◌≡◌, ℕ, ◌+◌, ◌-◌, ◌≤◌, true, false, ◌&&◌, List, length, take, drop, ℤ, Some, None, Ok, Err, Result, sym, ap, ◌∙◌, arith, length-drop, take_all, eq-eqb, ne_eqb}
 use Rattle.channel.specs.Sheet.{Terminal, Sheet, sheet_with}
 use Rattle.channel.specs.Assignment.{top_columns, bottom_columns}
 use Rattle.refusals.specs.declared.Refusal.{Refusal}
@@ -16,8 +16,6 @@ use Rattle.sheet.specs.Parts.{opened_of}
 use Rattle.sheet.proofs.Laws.{Opens, opens, held_sheet, held_shape}
 use Rattle.terminal.specs.Amount.{is_zero, out_of_range}
 use Rattle.list.specs.Answer.{side_allowed, all_allowed, first_of, side_amount, first_amount}
-use Rattle.list.specs.Listed.{GivesListed}
-use Rattle.list.specs.declared.listed.ListedSheet.{ListedSheet}
 use Rattle.list.specs.Answer.{unless, columns_listed, sheet_listed, listed_of}
 use Rattle.refusals.specs.declared.ListRefusal.{ListRefusal}
 use Rattle.list.proofs.Amounts.{some_amount, none_amount}
@@ -74,15 +72,6 @@ module _ (l : ℕ) (ts us : List Terminal) (cs : List ℕ) (n : Layout) (p : ℕ
 
       pub listed : out_of_range (both_amount ts us cs p) ≡ None → Ok n ≡ columns_listed (sheet_with l ts us) cs n
       listed e = rw (none_amount (both_amount ts us cs p) e) at by-amount
-
--- an answer, as the check gives it
-module _ (s columns : Bor (List ℕ)) (answer : Result Layout ListRefusal) where
-  pub refusal_given :
-      (why : ListRefusal) → Err why ≡ answer → (r : Result ListedSheet ListRefusal) → r ≡ Err why → GivesListed s columns answer r
-  refusal_given why e r given = rw (given, ← e) refl
-
-  pub sheet_given : (n : Layout) → Ok n ≡ answer → (m : ListedSheet) → Held s n m.sections → m.columns ≡ columns → GivesListed s columns answer (Ok m)
-  sheet_given n e m held own = rw (← e) (held, own)
 
 -- what is said of a sheet that does not open
 pub sheet-refused : (b cs : List ℕ) (why : Refusal) → opened_of b ≡ Err why → Err (Unsound why) ≡ listed_of b cs

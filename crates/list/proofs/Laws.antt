@@ -7,7 +7,8 @@ use Rattle.channel.specs.Assignment.{is_assignment}
 use Rattle.soundness.specs.Read.{sheet_of}
 use Rattle.sheet.specs.declared.Layout.{Layout}
 use Rattle.sheet.specs.declared.Shape.{Shape}
-use Rattle.sheet.specs.Sections.{sheet_held}
+use Rattle.sheet.specs.declared.Sections.{Sections}
+use Rattle.sheet.specs.Sections.{Held, sheet_held, Beside}
 use Rattle.std.specs.Borrow.{Bor}
 use Rattle.sheet.specs.Parts.{opened_of}
 use Rattle.sheet.proofs.Laws.{Opens, opens, held_sheet}
@@ -18,6 +19,7 @@ use Rattle.list.specs.declared.listed.ListedSheet.{ListedSheet}
 use Rattle.list.specs.Returned.{number_of}
 use Rattle.refusals.specs.declared.ListRefusal.{ListRefusal}
 use Rattle.refusals.specs.declared.Refusal.{Refusal}
+use Rattle.list.proofs.Columns.{beside}
 use Rattle.list.proofs.Returned.{one_list, assignment_long, tests-passed}
 
 pub record Assigns (b cs : List ℕ) (n : Layout) : Type 0 where
@@ -51,6 +53,21 @@ assigns b cs n h =
       long = assignment_long (sheet_of b) cs holds ∙ sym (ap (λ (f : Shape). f.pins) laws.shape);
       assigned = holds;
     }
+
+-- and its list stands beside the sections of its sheet
+pub assigned_beside :
+    (s columns : Bor (List ℕ)) (n : Layout) → listed_of s.now columns.now ≡ Ok n → (m : Sections) → Held s n m → Beside m columns.now
+assigned_beside s columns n h m held =
+    beside s columns.now n (opened_listed s.now columns.now n h) (assigns s.now columns.now n h).long m held
+
+-- an answer, as it is given with a sheet
+module _ (s columns : Bor (List ℕ)) (answer : Result Layout ListRefusal) where
+  pub refusal_given :
+      (why : ListRefusal) → Err why ≡ answer → (r : Result ListedSheet ListRefusal) → r ≡ Err why → GivesListed s columns answer r
+  refusal_given why e r given = rw (given, ← e) refl
+
+  pub sheet_given : (n : Layout) → Ok n ≡ answer → (m : ListedSheet) → Held s n m.sections → m.columns ≡ columns → GivesListed s columns answer (Ok m)
+  sheet_given n e m held own = rw (← e) (held, own)
 
 -- an assignment that was given beside the sections of its sheet
 pub record Given (s columns : Bor (List ℕ)) (m : ListedSheet) : Type 0 where

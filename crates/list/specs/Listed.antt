@@ -1,4 +1,4 @@
--- What the check of a column list gives: an assignment beside the sections of its sheet, or why the list is none.
+-- What is given of a column list: an assignment beside the sections of its sheet, or why the list is none.
 -- Assumes nothing.
 use Rattle.std.specs.Prelude.{◌≡◌, List, ℕ, Result, Ok, Err}
 use Rattle.std.specs.Borrow.{Bor}

@@ -1,5 +1,5 @@
-// Whether a column list is an assignment of a sheet, which a call on such a list asks first. The sheet is read only through the sheet
-// layer.
+// Whether a column list is an assignment of a sheet, which a call on such a list asks first, and an assignment beside its sheet. The sheet
+// is read only through the sheet layer.
 #![tactic(auto)]
 
 mod listed;
@@ -14,10 +14,11 @@ ghost use Rattle.list.specs.Listed.{GivesListed};
 pub use listed::ListedSheet;
 use refusals::ListRefusal;
 use rules::{ListedSide, first_amount};
+use sheet::Layout;
 
-// Checks a column list: 1 to 8 of the sheet, then 12, 13 and 14 of the list; an assignment it gives beside the sections of its sheet.
-pub fn check<'a>(s: &'a [u8], columns: &'a [u8]) -> Result<ListedSheet<'a>, ListRefusal>
-    ensures { GivesListed s.entry columns.entry (listed_of s.now columns.now) result }
+// Checks a column list: 1 to 8 of the sheet, then 12, 13 and 14 of the list; of an assignment it gives its sheet's layout.
+pub fn check(s: &[u8], columns: &[u8]) -> Result<Layout, ListRefusal>
+    ensures { result ≡ listed_of s.now columns.now }
 {
     let layout = sheet::open(s)?;
     if columns.len() != layout.shape.pins {
@@ -28,7 +29,16 @@ pub fn check<'a>(s: &'a [u8], columns: &'a [u8]) -> Result<ListedSheet<'a>, List
         columns,
     };
     check_columns(listed)?;
-    Ok(listed)
+    Ok(layout)
+}
+
+// An assignment beside the sections of its sheet, or why the list is none.
+pub fn assignment<'a>(s: &'a [u8], columns: &'a [u8]) -> Result<ListedSheet<'a>, ListRefusal>
+    ensures { GivesListed s.entry columns.entry (listed_of s.now columns.now) result }
+{
+    let layout = check(s, columns)?;
+    let sections = layout.sections(s);
+    Ok(ListedSheet { sections, columns })
 }
 
 // 13 and 14 of a list that is p+q long.

@@ -6,7 +6,7 @@ ghost use Rattle.sheet.specs.Sections.{Beside};
 
 use arrayvec::ArrayVec;
 use ends::PinList;
-use nets::all_nets;
+use nets::Nets;
 use sheet::Sections;
 
 // A sheet's sections, and a column for each of its terminals.
@@ -24,7 +24,10 @@ impl<'a> ListedSheet<'a> {
         ensures nets { result.nets.now
             ≡ nets_of (terminals_in self.entry.sections.top.now ++ terminals_in self.entry.sections.bottom.now) }
     {
-        all_nets(self.sections.top, self.sections.bottom, nets);
+        nets.clear();
+        for net in Nets::new(self.sections.top, self.sections.bottom) {
+            nets.push(net);
+        }
         PinList {
             nets,
             columns: self.columns,

@@ -12,7 +12,7 @@ ghost use Rattle.places.specs.Places.{AsksPlaces, Listed};
 use arrays::{LoadTable, Loads};
 use arrayvec::ArrayVec;
 use cut::{Cut, loads_at, stand_at};
-use nets::all_nets;
+use nets::Nets;
 use places::{NetPlaces, list_places};
 
 // The loads of the columns that can be, and 0 for the others: one with a top pin has i ≥ 1, one with a bottom pin j ≥ 1.
@@ -90,6 +90,8 @@ pub fn read_loads(top: &[u8], bottom: &[u8], loads: &mut LoadTable)
     ensures { LoadsRead (nets_in top.now) (nets_in bottom.now) loads.old.bytes loads.new.bytes }
 {
     let mut nets: ArrayVec<u16, 128> = ArrayVec::new();
-    all_nets(top, bottom, &mut nets);
+    for net in Nets::new(top, bottom) {
+        nets.push(net);
+    }
     tabulate(&nets, format::count_in(top), loads);
 }

@@ -11,6 +11,6 @@ use measured::Measured;
 pub fn measure(s: &[u8], columns: &[u8]) -> Measured
     ensures { result ≡ measured_of s.now columns.now }
 {
-    let listed = list::check(s, columns)?;
+    let listed = list::assignment(s, columns)?;
     Ok(list_density(listed))
 }

@@ -1,2 +1,3 @@
 pub mod Nets
 pub mod Distinct
+pub mod Left

@@ -1,31 +1,49 @@
 // The nets of a sheet's terminals.
 #![tactic(auto)]
 
-ghost use Rattle.std.specs.Prelude.{◌≡◌, ◌++◌, ◌+◌, ◌≤◌, length, eqb};
+ghost use Rattle.std.specs.Prelude.{◌≡◌, ◌++◌, eqb};
 ghost use Rattle.channel.specs.Density.{any};
 ghost use Rattle.channel.specs.Cut.{nets as nets_of};
 ghost use Rattle.format.specs.Parts.{terminals_in};
 
-use arrayvec::ArrayVec;
 use format::Terminals;
 
-// The nets of all terminals, top then bottom.
-pub fn all_nets<const N: usize>(top: &[u8], bottom: &[u8], nets: &mut ArrayVec<u16, N>)
-    requires { length (terminals_in top.now) + length (terminals_in bottom.now) ≤ N }
-    ensures { nets.new.items ≡ nets_of (terminals_in top.now ++ terminals_in bottom.now) }
-{
-    nets.clear();
-    push_nets(top, nets);
-    push_nets(bottom, nets);
+// The nets of a sheet's terminals that are still to come, top then bottom.
+#[derive(Clone, Copy)]
+pub struct Nets<'a> {
+    top: Terminals<'a>,
+    bottom: Terminals<'a>,
 }
 
-// The nets of a section, in order, behind those that are there.
-fn push_nets<const N: usize>(part: &[u8], nets: &mut ArrayVec<u16, N>)
-    requires { length nets.old.items + length (terminals_in part.now) ≤ N }
-    ensures { nets.new.items ≡ nets.old.items ++ nets_of (terminals_in part.now) }
-{
-    for record in Terminals::new(part) {
-        nets.push(record.net);
+impl<'a> Nets<'a> {
+    ghost use Rattle.nets.specs.Left.{nets_to_come};
+
+    // The nets of all terminals of two sections.
+    pub fn new(top: &'a [u8], bottom: &'a [u8]) -> Self
+        ensures { nets_to_come result ≡ nets_of (terminals_in top.now ++ terminals_in bottom.now) }
+    {
+        Nets {
+            top: Terminals::new(top),
+            bottom: Terminals::new(bottom),
+        }
+    }
+}
+
+impl<'a> Iterator for Nets<'a> {
+    ghost use Rattle.std.specs.Iterator.{YieldsFirst, item_count};
+    ghost use Rattle.nets.specs.Left.{nets_to_come};
+
+    type Item = u16;
+
+    ghost next_gives = { YieldsFirst nets_to_come };
+
+    ghost remaining = { item_count nets_to_come };
+
+    fn next(&mut self) -> Option<u16> {
+        match self.top.next() {
+            Some(record) => Some(record.net),
+            None => Some(self.bottom.next()?.net),
+        }
     }
 }
 

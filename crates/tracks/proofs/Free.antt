@@ -2,7 +2,7 @@
 -- Assumes nothing.
 use Rattle.std.proofs.Common.{ℕ, suc, ◌+◌, ◌≤◌, ◌<◌, arith, ◌≡◌, refl, sym, ap, ◌∙◌, List, [], ◌∷◌, Bool, true, false, cond, length, get_or, set, replicate, length-set, ltb, ltb-true, ltb-false, lt-ltb, le-ltb, leb, leb-true, leb-false, ne_eqb}
 use Rattle.std.specs.List.{prefix_len}
-use Rattle.nets.proofs.Nets.{get_or-zeros}
+use Rattle.nets.proofs.Lists.{get_or-zeros}
 use Rattle.left_edge.specs.declared.Interval.{Interval}
 use Rattle.left_edge.specs.Lists.{Each}
 use Rattle.left_edge.specs.Method.{passed, place, track_on, step, left_edge_from, left_edge}

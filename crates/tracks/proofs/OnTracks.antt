@@ -1,7 +1,7 @@
 -- The loop that puts intervals on tracks one after the other.
 -- Assumes nothing.
 use Rattle.std.proofs.Common.{◌≡◌, ℕ, zero, suc, ◌+◌, ◌≤◌, ◌<◌, max, List, [], ◌∷◌, ◌++◌, map, length, get_or, drop, replicate, refl, sym, ap, ◌∙◌, arith, append_assoc, append-nil, length-append, drop_of_length-le}
-use Rattle.nets.proofs.Nets.{drop-next}
+use Rattle.nets.proofs.Lists.{drop-next}
 use Rattle.left_edge.specs.declared.Interval.{Interval}
 use Rattle.left_edge.specs.declared.Span.{Span}
 use Rattle.left_edge.specs.Lists.{Each}

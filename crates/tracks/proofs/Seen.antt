@@ -5,7 +5,7 @@ use Rattle.std.proofs.Math.Bool.{or_assoc, or-false, or-true}
 use Rattle.std.proofs.Math.Decide.{ℕ_discrete}
 use Rattle.std.proofs.lemmas.Bool.{eqb-false}
 use Rattle.channel.specs.Density.{any, Pin}
-use Rattle.nets.proofs.Nets.{get_or-zeros}
+use Rattle.nets.proofs.Lists.{get_or-zeros}
 use Rattle.ends.specs.Ends.{pins_of}
 use Rattle.left_edge.specs.Lists.{Each}
 use Rattle.left_edge.specs.Spans.{differ, two_nets}

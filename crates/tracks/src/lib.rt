@@ -27,7 +27,7 @@ pub fn route(s: &[u8], columns: &[u8], room: usize) -> Result<Routed, TrackRefus
     ensures { Gives (tracked_of s.now columns.now room)
         (spans_of (sheet_of s.now) columns.now) result }
 {
-    let listed = list::check(s, columns)?;
+    let listed = list::assignment(s, columns)?;
     let mut spans = ArrayVec::new();
     let tracks = route_columns(listed, room, &mut spans)?;
     Ok(Routed { spans, tracks })

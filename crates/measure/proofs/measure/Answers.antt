@@ -6,8 +6,8 @@ use Rattle.measure.proofs.measure.Goals as goal
 
 pub returns-in_err-listed : goal.returns-in_err-listed
 returns-in_err-listed c =
-    let e = list_refused c.args.s c.args.columns _ (rw c.in_err-listed.was at c.check.ensures) in
+    let e = list_refused c.args.s c.args.columns _ (rw c.in_err-listed.was at c.assignment.ensures) in
     search rules
 
 pub returns : goal.returns
-returns c = density_counted c.args.s c.args.columns _ (rw c.in_ok-listed.was at c.check.ensures) _ c.list_density.ensures
+returns c = density_counted c.args.s c.args.columns _ (rw c.in_ok-listed.was at c.assignment.ensures) _ c.list_density.ensures

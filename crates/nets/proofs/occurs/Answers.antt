@@ -3,7 +3,7 @@
 use Rattle.std.proofs.Common.{ℕ, Bool, false, ◌||◌, eqb, rules, tests, ◌∙◌}
 use Rattle.std.proofs.lemmas.Iterator.{YieldsList-from_slice}
 use Rattle.std.proofs.lemmas.Iterator.Consumers.{fold_from_yields_List}
-use Rattle.nets.proofs.Nets.{any-fold}
+use Rattle.nets.proofs.Lists.{any-fold}
 use Rattle.nets.proofs.occurs.Goals as goal
 
 pub returns : goal.returns

@@ -7,21 +7,21 @@ use Rattle.tracks.proofs.Sheets.{list_refused, laid, tracks_given}
 use Rattle.tracks.proofs.route.Goals as goal
 
 pub route_columns-requires : goal.route_columns-requires
-route_columns-requires c = laid _ _ _ (given c.args.s c.args.columns _ (rw c.in_ok-listed.was at c.check.ensures))
+route_columns-requires c = laid _ _ _ (given c.args.s c.args.columns _ (rw c.in_ok-listed.was at c.assignment.ensures))
 
 pub returns-in_err-listed : goal.returns-in_err-listed
 returns-in_err-listed c =
-    list_refused _ _ _ _ (refused c.args.s c.args.columns _ (rw c.in_err-listed.was at c.check.ensures)) _ (search rules)
+    list_refused _ _ _ _ (refused c.args.s c.args.columns _ (rw c.in_err-listed.was at c.assignment.ensures)) _ (search rules)
 
 pub returns-in_err-tracks : goal.returns-in_err-tracks
 returns-in_err-tracks c =
-    let routed = tracks_given _ _ _ (given c.args.s c.args.columns _ (rw c.in_ok-listed.was at c.check.ensures)) c.args.room
+    let routed = tracks_given _ _ _ (given c.args.s c.args.columns _ (rw c.in_ok-listed.was at c.assignment.ensures)) c.args.room
     (routed_of c.route_columns.new.spans c.route_columns.result) c.route_columns.ensures in
     let refused = rw c.in_err-tracks.was at routed in
     search rules
 
 pub returns : goal.returns
 returns c =
-    let routed = tracks_given _ _ _ (given c.args.s c.args.columns _ (rw c.in_ok-listed.was at c.check.ensures)) c.args.room
+    let routed = tracks_given _ _ _ (given c.args.s c.args.columns _ (rw c.in_ok-listed.was at c.assignment.ensures)) c.args.room
     (routed_of c.route_columns.new.spans c.route_columns.result) c.route_columns.ensures in
     rw c.in_ok-tracks.was at routed

@@ -1,4 +1,4 @@
--- Laws of the nets of a sheet's terminals, one after the other.
+-- Laws of lists: what stands at a place, and whether a test holds of one of a list.
 -- Assumes nothing.
 use Rattle.std.proofs.Common.{◌≡◌, ℕ, zero, suc, ◌+◌, ◌<◌, Bool, true, false, ◌||◌, List, [], ◌∷◌, length, get_or, drop, fold, replicate, refl, ◌∙◌, add-one, drop-cons}
 use Rattle.channel.specs.Density.{any}
