@@ -60,7 +60,7 @@ pub assigned_beside :
 assigned_beside s columns n h m held =
     beside s columns.now n (opened_listed s.now columns.now n h) (assigns s.now columns.now n h).long m held
 
--- an answer, as it is given with a sheet
+-- what is given of an answer of the check
 module _ (s columns : Bor (List ℕ)) (answer : Result Layout ListRefusal) where
   pub refusal_given :
       (why : ListRefusal) → Err why ≡ answer → (r : Result ListedSheet ListRefusal) → r ≡ Err why → GivesListed s columns answer r
