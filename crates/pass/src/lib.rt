@@ -94,7 +94,8 @@ impl Pass<'_> {
         high
     }
 
-    // Writes the columns of the walk over a filled table.
+    // Writes the columns of the walk over a filled table. That they have room stays a clause, here and below: the buffer is the caller's,
+    // lent anew to each method.
     fn walk(self, work: &[u16], columns: &mut [u8])
         requires { AsksPass work.now self.plan × (self.plan.p + self.plan.q ≤ length columns.old) }
         ensures { let s = self.entry in columns.new ≡ columns_in work.now s.rules.now.words s.plan columns.old }
