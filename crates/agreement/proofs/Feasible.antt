@@ -11,7 +11,7 @@ use Rattle.bits.specs.Bits.{in_word}
 use Rattle.entry.specs.Entry.{cell}
 use Rattle.reach.specs.Reach.{reach, feasible}
 use Rattle.reach.proofs.Bounds.{Held, reach-held, feasible_mono}
-use Rattle.pass.specs.declared.Plan.{Plan}
+use Rattle.pass.specs.declared.plan.Plan.{Plan}
 use Rattle.pass.specs.Pass.{feasible_in, Rising}
 use Rattle.agreement.specs.Ready.{Ready}
 use Rattle.agreement.proofs.Reached.{cell-reach}

@@ -16,7 +16,7 @@ use Rattle.table.specs.Planes.{held_at}
 use Rattle.reach.specs.Reach.{near, reach}
 use Rattle.reach.specs.Greedy.{next, last_at, smallest_of, letter_fits, choice}
 use Rattle.reach.proofs.Bounds.{Held, reach-held}
-use Rattle.pass.specs.declared.Plan.{Plan}
+use Rattle.pass.specs.declared.plan.Plan.{Plan}
 use Rattle.letters.specs.declared.Progress.{Progress}
 use Rattle.rules.specs.Sides.{SideRules}
 use Rattle.walk.specs.Walk.{steps_to, stands_at, number_fits, lefts, row_fits, row_meets, some_left}

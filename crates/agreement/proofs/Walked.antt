@@ -14,7 +14,7 @@ use Rattle.reach.specs.Greedy.{choice, walk_word_from, walk_word}
 use Rattle.reach.proofs.Rightmost.{last_in}
 use Rattle.reach.proofs.Completed.{SideDone, Done, done_rest}
 use Rattle.reach.proofs.Whole.{walk-whole}
-use Rattle.pass.specs.declared.Plan.{Plan}
+use Rattle.pass.specs.declared.plan.Plan.{Plan}
 use Rattle.letters.specs.Letters.{has_top_pin, has_bottom_pin, behind, written}
 use Rattle.walk.specs.Walk.{choice_in, walk_columns}
 use Rattle.agreement.specs.Ready.{Ready}

@@ -6,7 +6,7 @@ use Rattle.channel.specs.Cut.{load}
 use Rattle.channel.specs.Word.Letter.{top, bottom, both}
 use Rattle.arrays.specs.Loads.{load_at}
 use Rattle.table.specs.Planes.{Measures}
-use Rattle.pass.specs.declared.Plan.{Plan}
+use Rattle.pass.specs.declared.plan.Plan.{Plan}
 use Rattle.rules.specs.Sides.{SideRules}
 
 -- the loads of every cut

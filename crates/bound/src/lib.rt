@@ -7,7 +7,8 @@ ghost use Rattle.bound.specs.LowerBound.{lowest as lowestOf, lower_bound};
 
 use arrays::LoadTable;
 
-// The lower bound of i top and j bottom pins, from those of one top pin less, one bottom pin less, and one of each less.
+// The lower bound of i top and j bottom pins, from those of one top pin less, one bottom pin less, and one of each less. The bounds of i
+// and j stay clauses, here and below, as `arrays` says.
 #[tactic(auto, unfolding(crate::specs::LowerBound::lowest))]
 fn lowest(loads: &LoadTable, i: usize, j: usize, above: u8, before: u8, diagonal: u8) -> u8
     requires { (i ≤ pins) × (j ≤ pins) }

@@ -1,4 +1,4 @@
-// The three loads of one cut, counted in one loop over the nets.
+// The three loads of one cut: how many nets cross a column there that has a top pin only, a bottom pin only, and both.
 #![tactic(auto)]
 
 ghost use Rattle.std.specs.Prelude.{◌≡◌, ◌≤◌, ◌<◌, length};

@@ -11,7 +11,7 @@ pub type List = [u8; ROOM];
 
 pub type Nets = ArrayVec<u16, ROOM>;
 
-// L, p, q, and the terminals, top before bottom.
+// L, p, q, and the terminals, top before bottom, of which p and q say how many: an `ArrayVec` could not be copied, as a sheet is.
 #[derive(Clone, Copy)]
 pub struct Sheet {
     pub columns: u8,

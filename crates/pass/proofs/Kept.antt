@@ -3,7 +3,7 @@
 use Rattle.std.proofs.Common.{ℕ, ◌≡◌, List, length}
 use Rattle.entry.specs.declared.Grid.{Grid}
 use Rattle.table.proofs.Planes.{fits_kept}
-use Rattle.pass.specs.declared.Plan.{Plan}
+use Rattle.pass.specs.declared.plan.Plan.{Plan}
 use Rattle.walk.specs.Walking.{AsksWalk}
 use Rattle.pass.specs.Pass.{AsksPass}
 

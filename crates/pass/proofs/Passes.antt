@@ -10,7 +10,7 @@ use Rattle.entry.specs.Entry.{cell}
 use Rattle.table.specs.Planes.{Filled, held_at, meeting}
 use Rattle.bound.specs.LowerBound.{lower_bound}
 use Rattle.bound.proofs.LowerBound.{cell-none}
-use Rattle.pass.specs.declared.Plan.{Plan}
+use Rattle.pass.specs.declared.plan.Plan.{Plan}
 use Rattle.pass.specs.Pass.{feasible_in, Rising, table_end}
 use Rattle.walk.specs.Walk.{ones}
 

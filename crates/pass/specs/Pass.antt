@@ -6,7 +6,7 @@ use Rattle.channel.specs.Density.{most_density}
 use Rattle.bits.specs.Bits.{in_word}
 use Rattle.entry.specs.Entry.{cell}
 use Rattle.table.specs.Planes.{SameGaps, Filled}
-use Rattle.pass.specs.declared.Plan.{Plan}
+use Rattle.pass.specs.declared.plan.Plan.{Plan}
 use Rattle.walk.specs.Walk.{walk_columns}
 use Rattle.walk.specs.Walking.{AsksWalk}
 

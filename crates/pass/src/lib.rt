@@ -1,6 +1,8 @@
 // Passes over the table: whether all pins can be placed under a bound, and the least such bound.
 #![tactic(auto)]
 
+mod plan;
+
 ghost use Rattle.std.specs.Prelude.{◌+◌, ◌≤◌, ◌<◌, ◌≡◌, true, false, length};
 ghost use Rattle.channel.specs.Density.{most_density};
 ghost use Rattle.table.specs.Planes.{Filled};
@@ -9,21 +11,13 @@ ghost use Rattle.pass.specs.Pass.{AsksPass, feasible_in, Rising, Tried, Bounded,
 use arrays::{LoadTable, RuleTable};
 use bits::below;
 use bound::lower_bound;
-use entry::{Filling, Grid};
+use entry::Filling;
+pub use plan::Plan;
 use table::{Follower, Plane, fill};
 use walk::Walk;
 
 // No density is above this.
 const MOST: u8 = 128;
-
-// The table's measures, the numbers of pins and the length of the channel.
-#[derive(Clone, Copy)]
-pub struct Plan {
-    pub grid: Grid,
-    pub p: usize,
-    pub q: usize,
-    pub l: usize,
-}
 
 // What all passes over one sheet go by. The cells are no field, and each method asks anew where the table lies in them: they change from
 // pass to pass, and a struct that holds them to be written cannot be copied.
@@ -32,6 +26,7 @@ pub struct Pass<'a> {
     pub rules: &'a RuleTable,
     pub loads: &'a LoadTable,
     pub plan: Plan,
+    ghost rising: { Rising (feasible_in rules.now.words loads.now.bytes plan) },
 }
 
 // A bound to try: so far ahead of the lowest that is left, and not past the middle of those that are left.
@@ -79,7 +74,7 @@ impl Pass<'_> {
     // above `failed`, so the passes look there first, and each of them about twice as far ahead.
     fn least(self, work: &mut [u16], failed: u8) -> u8
         requires { let f = feasible_in self.rules.now.words self.loads.now.bytes self.plan in
-            AsksPass work.old self.plan × (f failed ≡ false) × (f most_density ≡ true) × Rising f }
+            AsksPass work.old self.plan × (f failed ≡ false) × (f most_density ≡ true) }
         ensures { let s = self.entry in
             Bounded s.rules.now.words s.loads.now.bytes s.plan work.old work.new result }
     {
@@ -99,7 +94,8 @@ impl Pass<'_> {
         high
     }
 
-    // Writes the columns of the walk over a filled table.
+    // Writes the columns of the walk over a filled table. That they have room stays a clause, here and below: the buffer is the caller's,
+    // lent anew to each method.
     fn walk(self, work: &[u16], columns: &mut [u8])
         requires { AsksPass work.now self.plan × (self.plan.p + self.plan.q ≤ length columns.old) }
         ensures { let s = self.entry in columns.new ≡ columns_in work.now s.rules.now.words s.plan columns.old }
@@ -118,7 +114,7 @@ impl Pass<'_> {
     // The columns of the walk under the least bound, if there is one, where `failed` is none.
     fn place_above(self, work: &mut [u16], failed: u8, columns: &mut [u8]) -> Option<u8>
         requires { let f = feasible_in self.rules.now.words self.loads.now.bytes self.plan in
-            AsksPass work.old self.plan × (self.plan.p + self.plan.q ≤ length columns.old) × (f failed ≡ false) × Rising f }
+            AsksPass work.old self.plan × (self.plan.p + self.plan.q ≤ length columns.old) × (f failed ≡ false) }
         ensures { let s = self.entry in
             Placed s.rules.now.words s.loads.now.bytes s.plan work.old work.new columns.old columns.new result }
     {
@@ -134,8 +130,7 @@ impl Pass<'_> {
     // The columns of the walk under the least bound, if there is one. No bound below the first that is tried places all pins, and
     // most often that one does.
     pub fn place(self, work: &mut [u16], columns: &mut [u8]) -> Option<u8>
-        requires { AsksPass work.old self.plan × (self.plan.p + self.plan.q ≤ length columns.old)
-            × Rising (feasible_in self.rules.now.words self.loads.now.bytes self.plan) }
+        requires { AsksPass work.old self.plan × (self.plan.p + self.plan.q ≤ length columns.old) }
         ensures { let s = self.entry in
             Placed s.rules.now.words s.loads.now.bytes s.plan work.old work.new columns.old columns.new result }
     {

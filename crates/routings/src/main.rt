@@ -3,6 +3,7 @@
 
 use std::io::{self, Write};
 use tally::Tally;
+use trials::Shared;
 
 mod answers;
 mod lists;
@@ -14,11 +15,17 @@ const SHEETS: u64 = 30000;
 // Every fifth sheet of `drawn` is taken, so that about a third are regular ones.
 const STEP: u64 = 5;
 
-fn main(rt: HostRuntime) -> io::Result<()> {
-    let mut out = io::writer(&rt);
-    let mut tally = Tally::default();
+fn route_all<W: Write>(shared: &mut Shared<W>) -> io::Result<()> {
     for n in 0..SHEETS {
-        trials::try_sheet(&mut out, STEP * n, &mut tally)?;
+        shared.try_sheet(STEP * n)?;
     }
-    writeln!(out, "{tally}")
+    writeln!(shared.out, "{}", shared.tally)
+}
+
+fn main(rt: HostRuntime) -> io::Result<()> {
+    let mut shared = Shared {
+        out: &mut io::writer(&rt),
+        tally: Tally::default(),
+    };
+    route_all(&mut shared)
 }

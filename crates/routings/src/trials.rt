@@ -28,35 +28,11 @@ impl fmt::Display for Case<'_> {
     }
 }
 
-// One call, and what it must answer. The first five that do not are shown.
-fn try_case<W: Write>(out: &mut W, case: &Case, tally: &mut Tally) -> io::Result<()> {
-    let wanted = case.expected();
-    let given = case.given();
-    let wrong = wanted != given || !case.is_dense(&wanted);
-    if wrong && tally.wrong < 5 {
-        write!(out, "{case}: expected {}; ", Shown(&wanted))?;
-        writeln!(out, "route {}", Shown(&given))?;
-    }
-    tally.add(&wanted, wrong);
-    Ok(())
-}
-
-// One list of a sheet, whose bytes the page has.
-fn try_list<W: Write>(out: &mut W, trial: Trial, page: &Page, tally: &mut Tally) -> io::Result<()> {
-    let Trial { n, sheet, .. } = trial;
-    let kind = trial.kind();
-    let list = trial.list(kind);
-    let all = Lent {
-        sheet: page.sheet(),
-        columns: &list[..sheet.pins()],
-    };
-    let case = Case {
-        n,
-        pins: Pins { sheet, list: &list },
-        lent: kind.lend(all),
-        room: trial.room(),
-    };
-    try_case(out, &case, tally)
+// What all sheets share: where differences are written, and what has occurred so far.
+#[derive(Drop)]
+pub struct Shared<'a, W> {
+    pub out: &'a mut W,
+    pub tally: Tally,
 }
 
 // Sheet n of `drawn`; three of four have full sets, so that most have assignments.
@@ -70,19 +46,52 @@ fn sheet_of(n: u64, plan: Plan) -> Sheet {
     sheet
 }
 
-// Every list of sheet n.
-pub fn try_sheet<W: Write>(out: &mut W, n: u64, tally: &mut Tally) -> io::Result<()> {
-    let plan = drawn::plan_of(n);
-    let sheet = sheet_of(n, plan);
-    let mut page = Page::new();
-    drawn::put_sheet(&mut page, plan, &sheet);
-    for k in 0..LISTS {
-        let trial = Trial {
-            n,
-            k,
-            sheet: &sheet,
-        };
-        try_list(out, trial, &page, tally)?;
+impl<W: Write> Shared<'_, W> {
+    // One call, and what it must answer. The first five that do not are shown.
+    fn try_case(&mut self, case: &Case) -> io::Result<()> {
+        let wanted = case.expected();
+        let given = case.given();
+        let wrong = wanted != given || !case.is_dense(&wanted);
+        if wrong && self.tally.wrong < 5 {
+            write!(self.out, "{case}: expected {}; ", Shown(&wanted))?;
+            writeln!(self.out, "route {}", Shown(&given))?;
+        }
+        self.tally.add(&wanted, wrong);
+        Ok(())
     }
-    Ok(())
+
+    // One list of a sheet, whose bytes the page has.
+    fn try_list(&mut self, trial: Trial, page: &Page) -> io::Result<()> {
+        let Trial { n, sheet, .. } = trial;
+        let kind = trial.kind();
+        let list = trial.list(kind);
+        let all = Lent {
+            sheet: page.sheet(),
+            columns: &list[..sheet.pins()],
+        };
+        let case = Case {
+            n,
+            pins: Pins { sheet, list: &list },
+            lent: kind.lend(all),
+            room: trial.room(),
+        };
+        self.try_case(&case)
+    }
+
+    // Every list of sheet n.
+    pub fn try_sheet(&mut self, n: u64) -> io::Result<()> {
+        let plan = drawn::plan_of(n);
+        let sheet = sheet_of(n, plan);
+        let mut page = Page::new();
+        drawn::put_sheet(&mut page, plan, &sheet);
+        for k in 0..LISTS {
+            let trial = Trial {
+                n,
+                k,
+                sheet: &sheet,
+            };
+            self.try_list(trial, &page)?;
+        }
+        Ok(())
+    }
 }

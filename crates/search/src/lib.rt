@@ -16,7 +16,8 @@ pub struct Both {
     pub second: Searched,
 }
 
-// Finds the best assignment of the sheet and writes its columns, top then bottom.
+// Finds the best assignment of the sheet and writes its columns, top then bottom. The two buffers stay two parameters here and below, as C
+// lends them.
 pub fn search(s: &[u8], columns: &mut [u8], work: &mut [u16]) -> Searched
     ensures { Searches s.now columns.old work.old columns.new work.new result }
 {

@@ -23,7 +23,7 @@ use Rattle.reach.specs.Greedy.{walk_word}
 use Rattle.reach.proofs.Bounds.{feasible_some, reach-held}
 use Rattle.reach.proofs.Least.{search-best, search-none}
 use Rattle.reach.proofs.Whole.{walk-pins}
-use Rattle.pass.specs.declared.Plan.{Plan}
+use Rattle.pass.specs.declared.plan.Plan.{Plan}
 use Rattle.rules.specs.Sides.{SideRules}
 use Rattle.pass.specs.Pass.{AsksPass, feasible_in, Rising, Placed, table_end}
 use Rattle.agreement.specs.Ready.{SheetLoads, Ready}
@@ -163,16 +163,11 @@ came_best s rules loads n ready old new columns columns' room None placed =
     (rw e, rw e same)
 
 module _ (m : Sections) (columns work : List ℕ) (asked : AsksSolve m (length columns) (length work))
-    (hp : m.shape.top ≤ m.shape.columns) (hq : m.shape.bottom ≤ m.shape.columns) (rules loads : List ℕ) (plan : Plan)
-    (planned : plan ≡ plan_of m.shape.columns m.shape.top m.shape.bottom) (rt : SideRules 0 (terminals_in m.top.now) rules)
-    (rb : SideRules 1 (terminals_in m.bottom.now) rules) (ls : SheetLoads (sheet_held m) loads)
+    (hp : m.shape.top ≤ m.shape.columns) (hq : m.shape.bottom ≤ m.shape.columns) (plan : Plan)
+    (planned : plan ≡ plan_of m.shape.columns m.shape.top m.shape.bottom)
   where
-    plan-ready : Ready (sheet_held m) rules loads plan
-    plan-ready = rw planned (ready m (length columns) (length work) asked hp hq rules loads rt rb ls)
-
     -- what the passes ask
-    pub place-asked :
-        AsksPass work plan × (plan.p + plan.q ≤ length columns) × Rising (feasible_in rules loads plan)
+    pub place-asked : AsksPass work plan × (plan.p + plan.q ≤ length columns)
     place-asked = (
       record {
         lies =
@@ -183,24 +178,31 @@ module _ (m : Sections) (columns work : List ℕ) (asked : AsksSolve m (length c
         columns = rw planned asked.sound.columns.1;
       },
       rw planned (omega (arith, asked.pins, pin_count_lem m (length columns) (length work) asked)),
-      feasible_rising _ rules loads plan plan-ready,
     )
 
-    -- and what they come to
-    pub placed-worked :
-        (columns' work' : List ℕ) (r : Option ℕ) → Placed rules loads plan work work' columns columns' r
-        → Worked m columns columns' work work' r
-    placed-worked columns' work' r placed =
-        let room : plan.p + plan.q ≤ length columns
-        = rw planned (omega (arith, asked.pins, pin_count_lem m (length columns) (length work) asked)) in
-        let (o, w) = came_best (sheet_held m) rules loads plan plan-ready work work' columns columns' room r placed in
-        let end : table_end plan ≡ m.shape.cells
-        = rw planned
-        (sym (mul_assoc (m.shape.top + 1) (m.shape.bottom + 1) ((m.shape.columns + 1) * (m.shape.columns + 1)))
-        ∙ sym (cell-count m (length columns) (length work) asked)) in
-        record {
-          outcome = o;
-          written = w;
-          kept = placed.table.kept;
-          behind = subst (λ (k : ℕ). drop k work' ≡ drop k work) end placed.table.behind;
-        }
+    module _ (rules loads : List ℕ) (rt : SideRules 0 (terminals_in m.top.now) rules) (rb : SideRules 1 (terminals_in m.bottom.now) rules)
+        (ls : SheetLoads (sheet_held m) loads)
+      where
+        plan-ready : Ready (sheet_held m) rules loads plan
+        plan-ready = rw planned (ready m (length columns) (length work) asked hp hq rules loads rt rb ls)
+
+        -- what they go by
+        pub pass-rising : Rising (feasible_in rules loads plan)
+        pass-rising = feasible_rising _ rules loads plan plan-ready
+
+        -- and what they come to
+        pub placed-worked :
+            (columns' work' : List ℕ) (r : Option ℕ) → Placed rules loads plan work work' columns columns' r
+            → Worked m columns columns' work work' r
+        placed-worked columns' work' r placed =
+            let (o, w) = came_best (sheet_held m) rules loads plan plan-ready work work' columns columns' place-asked.1 r placed in
+            let end : table_end plan ≡ m.shape.cells
+            = rw planned
+            (sym (mul_assoc (m.shape.top + 1) (m.shape.bottom + 1) ((m.shape.columns + 1) * (m.shape.columns + 1)))
+            ∙ sym (cell-count m (length columns) (length work) asked)) in
+            record {
+              outcome = o;
+              written = w;
+              kept = placed.table.kept;
+              behind = subst (λ (k : ℕ). drop k work' ≡ drop k work) end placed.table.behind;
+            }

@@ -8,7 +8,7 @@ use Rattle.format.specs.Parts.{terminals_in}
 use Rattle.sheet.specs.Parts.{shape}
 use Rattle.sheet.specs.declared.Sections.{Sections}
 use Rattle.sheet.specs.Sections.{sheet_held}
-use Rattle.pass.specs.declared.Plan.{Plan}
+use Rattle.pass.specs.declared.plan.Plan.{Plan}
 use Rattle.solve.specs.Buffers.{with_columns, cleared}
 
 -- the measures of the table for p top and q bottom pins in l columns

@@ -1,6 +1,6 @@
 -- Why the planes, filled one after the other, hold the table.
 -- Assumes nothing.
-use Rattle.std.proofs.Common.{ℕ, zero, suc, ◌+◌, ◌-◌, ◌*◌, ◌%◌, ◌^◌, ◌≤◌, ◌<◌, ◌≡◌, refl, sym, ◌∙◌, ap, ap₂, List, Bool, true, false, ◌&&◌, ◌||◌, ◌⊎◌, inl, inr, arith, mul-le-mul_right, add-mul, one-mul, suc-mul, zero-mul, mod-eq_of_lt, length, drop, drop-drop, leb, ltb, eqb, ltb-true, ltb-false, eqb-true}
+use Rattle.std.proofs.Common.{ℕ, zero, suc, ◌+◌, ◌-◌, ◌*◌, ◌%◌, ◌^◌, ◌≤◌, ◌<◌, ◌≡◌, refl, sym, ◌∙◌, ap, ap₂, subst, List, Bool, true, false, ◌&&◌, ◌||◌, ◌⊎◌, inl, inr, arith, mul-le-mul_right, add-mul, one-mul, suc-mul, zero-mul, mod-eq_of_lt, length, drop, drop-drop, leb, ltb, eqb, ltb-true, ltb-false, eqb-true}
 use Rattle.std.proofs.Math.Nat.{mul-add-mod_self_right}
 use Rattle.std.proofs.lemmas.Bool.{eqb-false}
 use Rattle.channel.proofs.Below.{any_below_cong}
@@ -194,15 +194,18 @@ module _ (rules loads : List ℕ) (bound : ℕ) (g : Grid) (sizes : Measures g) 
   -- the whole plane
   pub rows_all :
       (work : List ℕ) → Rows rules loads bound g i j at g.rows old work
-      → Filled rules loads bound g i (j + 1) (at + g.size) old work
+      → Filled rules loads bound g i (j + 1) (base_of g i (j + 1)) old work
   rows_all work r =
       record {
         kept = r.kept;
-        behind = r.behind;
+        behind = subst (λ (k : ℕ). drop k work ≡ drop k old) next r.behind;
         gaps = r.gaps;
         cells = λ n m x y earlier hm hx hy. by-plane n m x y earlier hm hx hy (eqb n i) (eqb m j) refl refl;
       }
     where
+      next : at + g.size ≡ base_of g i (j + 1)
+      next = omega (arith, place, next-product j g.size)
+
       by-plane :
           (n m x y : ℕ) → (n < i) ⊎ ((n ≡ i) × (m < j + 1)) → m < g.across → x < g.rows → y < 64 → (s t : Bool) → eqb n i ≡ s
           → eqb m j ≡ t → held work (base_of g n m) x y ≡ cell rules loads bound n m x y

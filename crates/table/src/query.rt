@@ -1,7 +1,7 @@
 // Questions to a filled table.
-ghost use Rattle.std.specs.Prelude.{ℕ, ◌-◌, ◌≤◌, ◌<◌, ◌≡◌, ◌&&◌, leb};
+ghost use Rattle.std.specs.Prelude.{ℕ, ◌-◌, ◌≤◌, ◌<◌, ◌≡◌, ◌&&◌, leb, length};
 ghost use Rattle.bits.specs.Bits.{bit_of};
-ghost use Rattle.table.specs.Planes.{AsksTable, meeting};
+ghost use Rattle.table.specs.Planes.{AsksTable, base_of, meeting};
 
 use bits::{bit, both, either, single};
 use cells::read_word;
@@ -44,7 +44,7 @@ impl Follower {
     }
 }
 
-// Plane (i, j) of a filled table.
+// Plane (i, j) of a table.
 #[derive(Clone, Copy)]
 pub struct Plane<'a> {
     pub work: &'a [u16],
@@ -54,13 +54,21 @@ pub struct Plane<'a> {
 }
 
 impl Plane<'_> {
+    // The cell in which it starts.
+    pub fn start(self) -> usize
+        requires { base_of self.grid self.i self.j ≤ length self.work.now }
+        ensures { let a = self.entry in result ≡ base_of a.grid a.i a.j }
+    {
+        self.i * self.grid.stride + self.j * self.grid.size
+    }
+
     // Whether some row from `low` to `high`, whose step to the pin behind is in range, meets the mask.
     pub fn meets(self, low: usize, high: usize, next: Follower, mask: u64) -> bool
         requires { AsksTable self.work.now self.grid self.i × (self.j < self.grid.across)
             × (low ≤ high) × (high < self.grid.rows) × (high ≤ next.at) }
         ensures { let a = self.entry in result ≡ meeting a.work.now a.grid a.i a.j low high next.at next.by mask }
     {
-        let base = self.i * self.grid.stride + self.j * self.grid.size;
+        let base = self.start();
         // not `low..=high`, of which the last turn would have to be shown once more
         for x in low..high + 1 {
             if next.near(x) {

@@ -74,7 +74,8 @@ fn two_nets(pins: PinList) -> bool
     requires { Each (λ (c : ℕ). c < 256) pins.columns.now }
     ensures { result ≡ two_nets (pins_in pins.entry) }
 {
-    // one more than the net of the last pin in each column, 0 where there was none
+    // one more than the net of the last pin in each column, 0 where there was none: with an `Option` for each column all of the routing takes
+    // 1.33, 1.15 and 1.01 of the time for 10, 32 and 128 pins (in plain Rust)
     let mut seen: [u32; 256] = [0; 256];
     let mut found = false;
     for (net, column) in pins.nets.iter().zip(pins.columns) {

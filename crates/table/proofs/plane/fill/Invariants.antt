@@ -1,10 +1,10 @@
 -- `table::fill` meets its contract. The loop's invariant: the planes of the numbers passed are filled.
 -- Assumes nothing.
-use Rattle.std.proofs.Common.{◌*◌, ◌≡◌}
+use Rattle.std.proofs.Common.{◌*◌}
 use Rattle.table.specs.Planes.{Filled}
 use Rattle.table.proofs.plane.fill.Given as goal
 
 abbrev pub invariant-loop-i : goal.invariant-loop-i
 invariant-loop-i l =
     let f = l.filling in
-    (l.at ≡ l.i * f.grid.stride) × Filled f.rules.now.words f.loads.now.bytes f.bound f.grid l.i 0 l.at l.initial.work l.work
+    Filled f.rules.now.words f.loads.now.bytes f.bound f.grid l.i 0 (l.i * f.grid.stride) l.initial.work l.work

@@ -1,10 +1,9 @@
 -- `table::fill_row` meets its contract. The loop's invariant: the planes passed are filled.
 -- Assumes nothing.
-use Rattle.std.proofs.Common.{◌≡◌}
 use Rattle.table.specs.Planes.{Filled, base_of}
 use Rattle.table.proofs.plane.fill_row.Given as goal
 
 abbrev pub invariant-loop-j : goal.invariant-loop-j
 invariant-loop-j l =
     let f = l.filling in
-    (l.here ≡ base_of f.grid l.i l.j) × Filled f.rules.now.words f.loads.now.bytes f.bound f.grid l.i l.j l.here l.initial.work l.work
+    Filled f.rules.now.words f.loads.now.bytes f.bound f.grid l.i l.j (base_of f.grid l.i l.j) l.initial.work l.work

@@ -1,5 +1,6 @@
-use Rattle.std.proofs.Common.{ℕ, suc, ◌-◌, ◌≡◌, ◌∙◌, sym, ap, ◌&&◌, arith, leb}
+use Rattle.std.proofs.Common.{ℕ, suc, ◌+◌, ◌-◌, ◌*◌, ◌≡◌, ◌∙◌, sym, ap, ◌&&◌, arith, leb}
 use Rattle.bits.specs.Bits.{bit_of, in_word}
+use Rattle.cells.specs.Cells.{word_at}
 use Rattle.table.specs.Planes.{held_at, meeting}
 use Rattle.table.proofs.Unions.{none_before, row_misses, row_skipped, row_meets_lem, none-meets}
 use Rattle.table.proofs.query.Plane.meets.Goals as goal
@@ -24,7 +25,7 @@ returns-then-both-ne0 c =
     (λ (m y : ℕ). held_at s.work.now s.grid s.i s.j m y && bit_of a.mask y) (omega arith) (omega arith)
     (sym c.near.ensures ∙ c.if-near.true)
     c.both.result (omega (arith, c.both.type_inv)) c.if-both-ne0.true
-    (λ y. c.both.ensures y ∙ ap (λ (w : ℕ). bit_of w y && bit_of a.mask y) c.read_word.ensures)
+    (λ y. c.both.ensures y ∙ ap (λ (w : ℕ). bit_of w y && bit_of a.mask y) (c.read_word.ensures ∙ ap (λ (b : ℕ). word_at s.work.now (b + 4 * l.x)) c.start-base.ensures))
 
 pub loop-x-preserved : goal.loop-x-preserved
 loop-x-preserved c =
@@ -35,7 +36,7 @@ loop-x-preserved c =
     elim c.if-near.branch [
       | then-near+else-both-ne0 w ↦ row_misses a.low l.x (λ (m : ℕ). bit_of n.by (n.at - m))
           (λ (m y : ℕ). held_at s.work.now s.grid s.i s.j m y && bit_of a.mask y) w.both.result w.if-both-ne0.false
-          (λ y. w.both.ensures y ∙ ap (λ (v : ℕ). bit_of v y && bit_of a.mask y) w.read_word.ensures) l.invariant
+          (λ y. w.both.ensures y ∙ ap (λ (v : ℕ). bit_of v y && bit_of a.mask y) (w.read_word.ensures ∙ ap (λ (b : ℕ). word_at s.work.now (b + 4 * l.x)) c.start-base.ensures)) l.invariant
       | else-near w ↦ row_skipped a.low l.x (λ (m : ℕ). bit_of n.by (n.at - m))
           (λ (m y : ℕ). held_at s.work.now s.grid s.i s.j m y && bit_of a.mask y) (sym c.near.ensures ∙ w.if-near.false)
           l.invariant
