@@ -84,7 +84,7 @@ fn tabulate(nets: &[u16], p: usize, loads: &mut LoadTable)
     listed.write_table(loads);
 }
 
-// The loads of all cuts of two sections, as `format::part_in` gives them, once per search.
+// The loads of all cuts of two sections, once per search.
 pub fn read_loads(top: &[u8], bottom: &[u8], loads: &mut LoadTable)
     requires { (length (terminals_in top.now) ≤ 64) × (length (terminals_in bottom.now) ≤ 64) }
     ensures { LoadsRead (nets_in top.now) (nets_in bottom.now) loads.old.bytes loads.new.bytes }
