@@ -1,6 +1,6 @@
 -- Why the planes, filled one after the other, hold the table.
 -- Assumes nothing.
-use Rattle.std.proofs.Common.{ℕ, zero, suc, ◌+◌, ◌-◌, ◌*◌, ◌%◌, ◌^◌, ◌≤◌, ◌<◌, ◌≡◌, refl, sym, ◌∙◌, ap, ap₂, subst, List, Bool, true, false, ◌&&◌, ◌||◌, ◌⊎◌, inl, inr, arith, mul-le-mul_right, add-mul, one-mul, suc-mul, zero-mul, mod-eq_of_lt, length, drop, drop-drop, leb, ltb, eqb, ltb-true, ltb-false, eqb-true}
+use Rattle.std.proofs.Common.{ℕ, zero, suc, ◌+◌, ◌-◌, ◌*◌, ◌%◌, ◌^◌, ◌≤◌, ◌<◌, ◌≡◌, refl, sym, ◌∙◌, ap, ap₂, subst, List, Bool, true, false, ◌&&◌, ◌||◌, ◌⊎◌, inl, inr, arith, mul-le-mul_right, add-mul, one-mul, suc-mul, mod-eq_of_lt, length, drop, drop-drop, leb, ltb, eqb, ltb-true, ltb-false, eqb-true}
 use Rattle.std.proofs.Math.Nat.{mul-add-mod_self_right}
 use Rattle.std.proofs.lemmas.Bool.{eqb-false}
 use Rattle.channel.proofs.Below.{any_below_cong}
@@ -276,9 +276,6 @@ place_room work g i j x at sizes hi hj hx e room =
 
 -- where the planes of one i start and end
 module _ (g : Grid) (i : ℕ) where
-  pub row_start : i * g.stride ≡ base_of g i 0
-  row_start = omega (arith, zero-mul g.size)
-
   pub plane_next : (j : ℕ) → base_of g i j + g.size ≡ base_of g i (j + 1)
   plane_next j = omega (arith, next-product j g.size)
 
@@ -286,9 +283,6 @@ module _ (g : Grid) (i : ℕ) where
   plane_in_row sizes j h =
       let more : j + 1 ≤ g.across = omega arith in
       omega (arith, next-product j g.size, mul-le-mul_right g.size more, sizes.stride)
-
-  pub row_end : Measures g → base_of g i g.across ≡ i * g.stride + g.stride
-  row_end sizes = omega (arith, sizes.stride)
 
   pub row_next : i * g.stride + g.stride ≡ (i + 1) * g.stride
   row_next = sym (next-product i g.stride)
