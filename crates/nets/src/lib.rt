@@ -47,8 +47,8 @@ impl<'a> Iterator for Nets<'a> {
     }
 }
 
-// Whether a net occurs. The fold has no branch, so that the compiler can take many pins at a time: with std's `contains` to go through
-// the nets of 128 pins, each once, takes 1.01 to 1.76 of the time, of 10 pins 0.76 to 0.96 (in plain Rust).
+// Whether a net occurs. The fold has no branch, so that the compiler can take many pins at a time: with std's `contains` the nets of 128
+// pins, each once, take 0.9 to 1.8 of the time, the more the more nets there are, and those of 10 pins 0.8 to 1 (in plain Rust).
 pub fn occurs(net: u16, nets: &[u16]) -> bool
     ensures { result ≡ any (eqb net) nets.now }
 {

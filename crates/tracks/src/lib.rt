@@ -75,7 +75,7 @@ fn two_nets(pins: PinList) -> bool
     ensures { result ≡ two_nets (pins_in pins.entry) }
 {
     // one more than the net of the last pin in each column, 0 where there was none: with an `Option` for each column all of the routing takes
-    // 1.3 to 1.6, 1.1 to 1.2 and 1.01 to 1.03 of the time for 10, 32 and 128 pins (in plain Rust)
+    // 1.3 to 1.7, 1.1 to 1.3 and 1.01 to 1.03 of the time for 10, 32 and 128 pins (in plain Rust)
     let mut seen: [u32; 256] = [0; 256];
     let mut found = false;
     for (net, column) in pins.nets.iter().zip(pins.columns) {
