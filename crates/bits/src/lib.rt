@@ -58,7 +58,7 @@ pub fn either(a: u64, b: u64) -> u64
     a | b
 }
 
-// The lowest number of the set; 64 where it holds none.
+// The lowest number of the set; 64 where it holds none, as an option would become at each call.
 pub fn lowest(w: u64) -> usize
     ensures { (result ≤ 64) × (result < 64 → bit_of w result ≡ true) × ((n : ℕ) → n < result → bit_of w n ≡ false) }
 {

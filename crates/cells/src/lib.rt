@@ -12,7 +12,7 @@ pub fn read_word(cells: &[u16], at: usize) -> u64
     joined(cells[at], cells[at + 1], cells[at + 2], cells[at + 3])
 }
 
-// Four cells as one number, the lowest first.
+// Four cells as one number, the lowest first. By hand, since the cells are C's, 16 bits wide, and std joins bytes.
 fn joined(a: u16, b: u16, c: u16, d: u16) -> u64
     ensures { result ≡ a + 65536 * (b + 65536 * (c + 65536 * d)) }
 {

@@ -8,8 +8,8 @@ ghost use Rattle.cut.specs.Counts.{stand_of, with_net, loads_at};
 use arrays::Loads;
 use places::NetPlaces;
 
-// Of one side: how many pins stand at or left of the column, and the net of the last of them; 0 where there is none, since the loads of
-// such a column are not kept (`load::possible_loads`).
+// Of one side: how many pins stand at or left of the column, and the net of the last of them; 0 where there is none: an option would be
+// asked in vain, since the loads of such a column are not kept (`load::possible_loads`).
 #[derive(Clone, Copy)]
 pub struct Stand {
     pub count: u16,

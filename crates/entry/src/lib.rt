@@ -74,7 +74,7 @@ impl Row<'_> {
         load <= f.bound && bit(f.rules.allowed(Side::Top, i), x)
     }
 
-    // What its steps reach from the plane that lies so many cells before.
+    // What the last top pin's steps reach from the plane that lies so many cells before.
     fn top_steps(self, cells: usize) -> u64
         requires { (1 ≤ self.place.i) × (cells ≤ self.place.at) }
         ensures { let r = self.entry in let f = r.filling in let p = r.place in

@@ -7,6 +7,7 @@ use terminal::Record;
 // The most terminals of a sheet, and the most columns of a list.
 pub const ROOM: usize = 9;
 
+// A column for each terminal, of which the sheet says how many: an `ArrayVec` could not be copied, as a list is.
 pub type List = [u8; ROOM];
 
 pub type Nets = ArrayVec<u16, ROOM>;

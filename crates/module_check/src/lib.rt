@@ -45,7 +45,8 @@ fn check_pins(pins: Pins, width: u8) -> PinTests
 
 // The bound of the columns is a clause here and below: a type of its own would be asked of every caller.
 
-// The last left edge at which a module of this width lies in the channel; 0 where there is none.
+// The last left edge at which a module of this width lies in the channel; 0 where there is none, since `names_above` 0 then asks for any
+// edge at all, as an option would be made to.
 fn last_edge(columns: usize, width: usize) -> usize
     requires { columns ≤ 64 }
     ensures { result ≡ columns + 1 - width }

@@ -50,7 +50,8 @@ impl<'a> Pins<'a> {
     }
 }
 
-// `format::Terminals` differs in size and item. A trait for the two, with bodies of three lines, would be longer than both.
+// This and the iterator of `format::Terminals` differ in size and item: a trait for the two, with bodies of three lines, would be longer than
+// both.
 impl<'a> Iterator for Pins<'a> {
     ghost use Rattle.std.specs.Iterator.{YieldsFirst, item_count};
     ghost use Rattle.modules.specs.Left.{pins_left};

@@ -29,7 +29,8 @@ pub fn print(input: &[u8], out: &mut [u8; ROOM]) -> usize
     writer.end
 }
 
-// The text of an input.
+// The text of an input. Both stay parameters here and below: of a type of both, each function would have to say too that the input is the
+// same.
 fn put_text(out: &mut Writer, input: &[u8])
     requires { HasRoom out.old 3598 }
     ensures wrote { Writes out.old out.new (printed input.now) }

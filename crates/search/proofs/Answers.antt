@@ -1,6 +1,7 @@
 -- Why the search keeps its promise: each way out of it, from what its calls answered.
 -- Assumes nothing.
 use Rattle.std.proofs.Common.{◌≡◌, ℕ, ◌<◌, ◌≤◌, List, length, Some, None, Ok, Err, Option, Result, sym, refl, ap, ◌∙◌, arith, le-ltb, lt-ltb}
+use Rattle.std.specs.Option.{ok_or}
 use Rattle.channel.specs.Sheet.{Sheet}
 use Rattle.channel.specs.Best.{Found, best}
 use Rattle.channel.specs.Best.Found.{none, found}
@@ -119,10 +120,17 @@ module _ (s : Bor (List ℕ)) (columns work : List ℕ) where
               by_best none q = refl
               by_best (found k cs) q = let z : ◌≡◌ {A = ℕ} 0 1 = cc in absurd (omega arith)
 
-          pub answers-found : (d : ℕ) → r ≡ Some d → Searches b columns work columns' work' (Ok d)
+          answers-found : (d : ℕ) → r ≡ Some d → Searches b columns work columns' work' (Ok d)
           answers-found d e = answered columns' work' _ (sym (enough ∙ found-one d e)) written zeros
 
-          pub answers-none : r ≡ None → Searches b columns work columns' work' (Err searched.NoAssignment)
+          answers-none : r ≡ None → Searches b columns work columns' work' (Err searched.NoAssignment)
           answers-none e =
               answered columns' work' _ (sym (enough ∙ ap answer_as (found_none e)))
               (written ∙ ap (λ (f : Found). with_columns f columns) (found_none e)) zeros
+
+          pub answers-solved : Searches b columns work columns' work' (ok_or r searched.NoAssignment)
+          answers-solved = by_found r refl
+            where
+              by_found : (o : Option ℕ) → r ≡ o → Searches b columns work columns' work' (ok_or o searched.NoAssignment)
+              by_found (Some d) e = answers-found d e
+              by_found None e = answers-none e

@@ -37,10 +37,7 @@ fn search_layout(s: &[u8], layout: Layout, columns: &mut [u8], work: &mut [u16])
     if work.len() < shape.cells {
         return Err(SearchRefusal::Cells);
     }
-    match solve::solve(layout.sections(s), columns, work) {
-        Some(d) => Ok(d),
-        None => Err(SearchRefusal::NoAssignment),
-    }
+    solve::solve(layout.sections(s), columns, work).ok_or(SearchRefusal::NoAssignment)
 }
 
 // Searches two sheets, each on its own buffers. Of every two sound sheets of which the second is the first loosened or

@@ -7,7 +7,7 @@ const COLUMNS: [u8; 8] = [0, 1, 2, 63, 64, 65, 66, 255];
 
 const LENGTHS: [usize; 8] = [0, 1, 2, 62, 63, 64, 65, usize::MAX];
 
-// The amount of the distance from the column before.
+// The amount of the distance from the column before; 0 in range, as C gets it.
 pub fn range<W: Write>(
     out: &mut W,
     before: u8,

@@ -15,7 +15,7 @@ pub struct Follower {
 }
 
 impl Follower {
-    // No pin is behind: any step will do.
+    // No pin is behind: any step will do. An option would be asked at each row, where these two numbers answer as any others do.
     pub const NONE: Follower = Follower {
         at: 63,
         by: u64::MAX,
