@@ -1,2 +1,2 @@
-mod Bytes
+mod Words
 pub mod Laws
