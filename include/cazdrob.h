@@ -41,7 +41,8 @@ extern "C" {
  */
 enum cazdrob_number {
     CAZDROB_OK = 0,
-    /* the sheet: given by cazdrob_check, cazdrob_measure, cazdrob_search and cazdrob_tracks; 3, 4 and 6 by cazdrob_modules too */
+    /* the sheet: given by cazdrob_check, cazdrob_measure, cazdrob_search and cazdrob_tracks; 3, 4 and 6 by cazdrob_modules too, 8 by
+     * cazdrob_beyond */
     CAZDROB_SHORT = 1,    /* the sheet is shorter than 12 bytes */
     CAZDROB_MARK = 2,     /* its last two bytes are not CP */
     CAZDROB_LENGTH = 3,   /* L is 0 or above 64 */
@@ -77,6 +78,12 @@ enum cazdrob_number {
 
 /* 0 for a sound sheet, else the number of its refusal, 1 to 8. */
 uint32_t cazdrob_check(const uint8_t *sheet, size_t sheet_len);
+
+/*
+ * 8 where the set names a column above the last of so many columns, else 0: the test behind 8 of cazdrob_check, for one set. Bit 0 of the
+ * set is column 1, bit 63 is column 64. With 0 columns every column of the set is above the last, with 64 or more none is.
+ */
+uint32_t cazdrob_beyond(uint64_t set, size_t columns);
 
 /* The 16-bit work cells that a search of the sheet needs, (p+1)(q+1)(L+1)(L+1), which is 4 to 17,850,625; 0 for a refused sheet. */
 size_t cazdrob_cells(const uint8_t *sheet, size_t sheet_len);

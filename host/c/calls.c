@@ -170,6 +170,20 @@ static int refuses(size_t at, uint8_t byte, uint32_t number) {
            routes(sheet, 60, list, 4, 2, number, NULL, 0, 0, 0) && refused(search(sheet, 60, 4, 144), number, 0);
 }
 
+/* whether cazdrob_beyond says, for each length from 1 to 64, 0 of the empty set, and of each column, alone and with all before it, 8 exactly
+ * where it is above the length */
+static int beyond_exactly(void) {
+    for (size_t length = 1; length <= 64; length++) {
+        if (cazdrob_beyond(0, length) != 0) return 0;
+        for (size_t column = 1; column <= 64; column++) {
+            uint64_t alone = (uint64_t)1 << (column - 1), up_to = alone | (alone - 1);
+            uint32_t number = column > length ? CAZDROB_BEYOND : 0;
+            if (cazdrob_beyond(alone, length) != number || cazdrob_beyond(up_to, length) != number) return 0;
+        }
+    }
+    return 1;
+}
+
 /* whether two sides, with a buffer of so many bytes, return the number and leave this sheet, its length and nothing else */
 static int makes(size_t length, const uint8_t *top, size_t top_len, const uint8_t *bottom, size_t bottom_len, size_t room, uint32_t number,
                  const uint8_t *made, size_t made_len) {
@@ -260,6 +274,15 @@ int main(void) {
     EXPECT(refuses(24, 0, CAZDROB_NET));
     EXPECT(refuses(3, 1, CAZDROB_DISTANCE));
     EXPECT(refuses(4, 15, CAZDROB_BEYOND));
+
+    EXPECT(beyond_exactly());
+    /* numbers of columns that no sheet has */
+    EXPECT(cazdrob_beyond(0, 0) == 0);
+    EXPECT(cazdrob_beyond(1, 0) == CAZDROB_BEYOND);
+    EXPECT(cazdrob_beyond(0, SIZE_MAX) == 0);
+    EXPECT(cazdrob_beyond(UINT64_MAX, 65) == 0);
+    EXPECT(cazdrob_beyond(UINT64_MAX, 128) == 0);
+    EXPECT(cazdrob_beyond(UINT64_MAX, SIZE_MAX) == 0);
 
     EXPECT(refused(search(A, 60, 3, 144), CAZDROB_COLUMNS, 0));
     EXPECT(refused(search(A, 60, 3, 143), CAZDROB_COLUMNS, 0));

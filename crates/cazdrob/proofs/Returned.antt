@@ -1,7 +1,11 @@
 -- Demands 1 and 2 of the C functions: what a call of `cazdrob_search`, `cazdrob_measure`, `cazdrob_tracks` or `cazdrob_modules` returned
--- and left, and what a call of `cazdrob_distance` says.
+-- and left, and what a call of `cazdrob_beyond` or `cazdrob_distance` says.
 -- Assumes nothing.
-use Rattle.std.proofs.Common.{◌≡◌, ℕ, List, length, ℤ, refl}
+use Rattle.std.proofs.Common.{◌≡◌, ◌∙◌, ℕ, ◌^◌, Bool, true, false, List, length, ℤ, sym, refl, true≢false, leb-false, arith}
+use Rattle.refusals.specs.Refusals.{refuse}
+use Rattle.refusals.specs.declared.Refusal.TheVariants.{Beyond}
+use Rattle.channel.specs.Sheet.{names_above}
+use Rattle.channel.proofs.Sets.{allows-below, names_above_exactly}
 use Rattle.channel.specs.Distance.{amount, Says}
 use Rattle.channel.proofs.Distances.{amount_says}
 use Rattle.search.specs.Answer.{searched_of, Searches}
@@ -14,7 +18,7 @@ use Rattle.tracks.specs.Returned as tracks
 use Rattle.tracks.proofs.Returned.{one_routing}
 use Rattle.module_sheet.specs.Returned as modules
 use Rattle.module_sheet.proofs.Returned.{one_making}
-use Rattle.cazdrob.specs.Host.{HostMeasures, HostSearches, HostTracks, HostMakes}
+use Rattle.cazdrob.specs.Host.{check_number, beyond_number, SaysBeyond, HostMeasures, HostSearches, HostTracks, HostMakes}
 
 module _ {bytes buffer work buffer' work' : List ℕ} {density' r : ℕ} (host : HostSearches bytes buffer work buffer' work' density' r) where
   -- it kept the promise of the library's search
@@ -27,6 +31,21 @@ module _ {bytes buffer work buffer' work' : List ℕ} {density' r : ℕ} (host :
 pub host_measurement : {bytes columns : List ℕ} {density' : ℕ} {amount' : ℤ} {r : ℕ} → HostMeasures bytes columns density' amount' r
     → measure.Returned bytes columns r density' amount'
 host_measurement host = rw (host.number, host.density, host.amount) (one_measurement _ _ _ refl)
+
+pub host_beyond : {columns set r : ℕ} → r ≡ beyond_number columns set → SaysBeyond columns set r
+host_beyond {columns} {set} {r} = by-test (names_above columns set) refl
+  where
+    by-test : (t : Bool) → names_above columns set ≡ t → r ≡ check_number (refuse t Beyond) → SaysBeyond columns set r
+    by-test true above eight =
+        let (c, behind, named) = (names_above_exactly columns set).0 above in
+        record {
+          beyond = (λ e. (c, behind, named), λ some. eight);
+          within = (λ zero. absurd (omega arith), λ none. absurd (true≢false (sym named ∙ none c behind)));
+        }
+    by-test false above zero = record {
+      beyond = (λ eight. absurd (omega arith), λ some. absurd (true≢false (sym ((names_above_exactly columns set).1 some) ∙ above)));
+      within = (λ e. λ c behind. allows-below set columns c (leb-false (2 ^ columns) set above) behind, λ none. zero);
+    }
 
 pub host_distance :
     {least greatest before column : ℕ} {r : ℤ} → r ≡ amount least greatest before column

@@ -1,6 +1,8 @@
 -- What the C functions return and leave behind, in document 01's numbers.
 -- Assumes nothing.
-use Rattle.std.specs.Prelude.{ℕ, ◌≡◌, List, length, ℤ, Result}
+use Rattle.std.specs.Prelude.{ℕ, ◌≡◌, ◌<◌, ◌↔◌, true, false, List, length, ℤ, Result}
+use Rattle.channel.specs.Sheet.{names_above}
+use Rattle.channel.specs.Assignment.{allows}
 use Rattle.refusals.specs.Refusals as refusals
 use Rattle.refusals.specs.Answers.{number_in}
 use Rattle.measured.specs.Numbers as measured
@@ -14,11 +16,21 @@ use Rattle.tracked.specs.Numbers as tracked
 use Rattle.tracks.specs.Answer.{tracked_of, spans_after}
 use Rattle.made.specs.Numbers as made
 use Rattle.refusals.specs.declared.Refusal.{Refusal}
+use Rattle.refusals.specs.declared.Refusal.TheVariants.{Beyond}
 use Rattle.module_sheet.specs.Answer.{made_of, sheet_after, ReadsBack}
 
 -- the number of a sheet's refusal; 0 for a sound sheet
 abbrev pub check_number : Result Unit Refusal → ℕ
 check_number answer = number_in refusals.number_of answer
+
+-- the number of the test behind 8, asked of one set; 0 where it names no column above the last
+abbrev pub beyond_number : ℕ → ℕ → ℕ
+beyond_number columns set = check_number (refusals.refuse (names_above columns set) Beyond)
+
+-- "it says 8 exactly when the set names a column above L"
+pub record SaysBeyond (columns set r : ℕ) : Type 0 where
+  pub beyond : (r ≡ 8) ↔ ((c : ℕ) × (columns < c) × (allows set c ≡ true))
+  pub within : (r ≡ 0) ↔ ((c : ℕ) → columns < c → allows set c ≡ false)
 
 -- the promise of a measurement: its number, and the density and the amount that it leaves
 pub record HostMeasures (bytes columns : List ℕ) (density' : ℕ) (amount' : ℤ) (r : ℕ) : Type 0 where

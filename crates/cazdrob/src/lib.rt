@@ -6,10 +6,10 @@ ghost use Rattle.std.specs.Prelude.{◌≡◌};
 ghost use Rattle.channel.specs.Distance.{amount};
 ghost use Rattle.soundness.specs.Check.{check_of};
 ghost use Rattle.sheet.specs.Parts.{shape_of};
-ghost use Rattle.cazdrob.specs.Host.{check_number, HostMeasures, HostSearches, HostNumbers, HostTracks, HostMakes};
+ghost use Rattle.cazdrob.specs.Host.{check_number, beyond_number, HostMeasures, HostSearches, HostNumbers, HostTracks, HostMakes};
 
 use left_edge::Span;
-use refusals::{amount_of, number_of};
+use refusals::{Checked, Refusal, amount_of, number_of};
 use tracked::{Tracked, counts_in};
 
 // The number of the sheet's refusal; 0 for a sound sheet.
@@ -25,6 +25,18 @@ pub fn cazdrob_cells(s: &[u8]) -> usize
 {
     let shape = sheet::shape_of(s);
     shape.cells
+}
+
+// 8 where the set names a column above `columns`, as a sheet's check asks of every terminal; 0 where it names none.
+pub fn cazdrob_beyond(set: u64, columns: usize) -> u32
+    ensures { result ≡ beyond_number columns set }
+{
+    let answer: Checked = if terminal::names_above(set, columns) {
+        Err(Refusal::Beyond)
+    } else {
+        Ok(())
+    };
+    u32::from(number_of(answer))
 }
 
 // By how many columns the distance from the column before to this one is out of the range from least to greatest: 0 in range, negative

@@ -7,7 +7,7 @@ ghost use Rattle.std.specs.Prelude.{◌≡◌};
 ghost use Rattle.channel.specs.Distance.{amount};
 ghost use Rattle.soundness.specs.Check.{check_of};
 ghost use Rattle.sheet.specs.Parts.{shape_of};
-ghost use Rattle.cazdrob.specs.Host.{check_number, HostMeasures, HostSearches, HostTracks, HostMakes};
+ghost use Rattle.cazdrob.specs.Host.{check_number, beyond_number, HostMeasures, HostSearches, HostTracks, HostMakes};
 
 use left_edge::Span;
 
@@ -23,6 +23,13 @@ pub extern "C" fn cazdrob_cells(s: &[u8]) -> usize
     ensures { result ≡ (shape_of s.now).cells }
 {
     cazdrob::cazdrob_cells(s)
+}
+
+#[unsafe(no_mangle)]
+pub extern "C" fn cazdrob_beyond(set: u64, columns: usize) -> u32
+    ensures { result ≡ beyond_number columns set }
+{
+    cazdrob::cazdrob_beyond(set, columns)
 }
 
 #[unsafe(no_mangle)]

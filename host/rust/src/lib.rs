@@ -44,6 +44,7 @@ mod sys {
 
     extern "C" {
         pub fn cazdrob_check(sheet: *const u8, sheet_len: usize) -> u32;
+        pub fn cazdrob_beyond(set: u64, columns: usize) -> u32;
         pub fn cazdrob_cells(sheet: *const u8, sheet_len: usize) -> usize;
         pub fn cazdrob_distance(before: u8, column: u8, least: u8, greatest: u8) -> i32;
         pub fn cazdrob_measure(
@@ -94,6 +95,21 @@ mod sys {
 pub fn check(sheet: &[u8]) -> Result<(), Refusal> {
     // SAFETY: the pointer and the length are a slice's.
     answer(unsafe { sys::cazdrob_check(sheet.as_ptr(), sheet.len()) }, 0)
+}
+
+/// Whether a set names a column above the last of so many: the test behind 8 of [`check`].
+///
+/// Bit 0 of the set is column 1, bit 63 is column 64. With 0 columns every column of the set is above the last, with 64 or more none is.
+///
+/// ```
+/// let columns_2_3_and_5 = 0b10110;
+/// assert!(cazdrob::beyond(columns_2_3_and_5, 4));
+/// assert!(!cazdrob::beyond(columns_2_3_and_5, 5));
+/// ```
+#[inline]
+pub fn beyond(set: u64, columns: usize) -> bool {
+    // SAFETY: nothing is lent.
+    unsafe { sys::cazdrob_beyond(set, columns) != 0 }
 }
 
 /// The work cells that a search of the sheet needs, (p+1)(q+1)(L+1)²; 0 for a refused sheet.

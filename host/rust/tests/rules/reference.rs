@@ -80,7 +80,7 @@ pub fn read(sheet: &[u8]) -> Result<Channel, u32> {
             if !pair_is_right {
                 return Err(7);
             }
-            if (length + 1..=64).any(|column| names(&terminal, column as u8)) {
+            if beyond(terminal.set, length) {
                 return Err(8);
             }
             terminals.push(terminal);
@@ -90,6 +90,11 @@ pub fn read(sheet: &[u8]) -> Result<Channel, u32> {
     let top = side(top_at, p)?;
     let bottom = side(bottom_at, q)?;
     Ok(Channel { length, top, bottom })
+}
+
+/// Whether the set has a column above the length.
+pub fn beyond(set: u64, length: usize) -> bool {
+    (1..=64).any(|column| length < column && set & (1 << (column - 1)) != 0)
 }
 
 /// Whether the terminal's set has the column.
