@@ -4,7 +4,7 @@ mod plain;
 mod sheets;
 
 use cazdrob::{Refusal, Span, Tracks, NETS_MAX};
-use sheets::{open, sheet, Plan};
+use sheets::{open, sets, sheet, Plan};
 use std::hint::black_box;
 use std::process::ExitCode;
 use std::time::{Duration, Instant};
@@ -14,6 +14,8 @@ const SHORTEST_RUN: Duration = Duration::from_millis(2);
 
 /// One sheet with the buffers that both programs are lent in turn.
 struct Trial {
+    length: usize,
+    sets: Vec<u64>,
     sheet: Vec<u8>,
     list: Vec<u8>,
     columns: Vec<u8>,
@@ -23,6 +25,10 @@ struct Trial {
 
 #[derive(Clone, Copy, PartialEq)]
 enum Job {
+    Check,
+    PlainCheck,
+    Test,
+    PlainTest,
     Search,
     PlainSearch,
     Measure,
@@ -32,7 +38,7 @@ enum Job {
     Clear,
 }
 
-/// A density or a number of tracks, or the number and the amount of a refusal.
+/// A density, a number of tracks or of sets with a column beyond the end, or the number and the amount of a refusal.
 type Answer = Result<u32, (u32, i32)>;
 
 fn refused(why: Refusal) -> (u32, i32) {
@@ -45,7 +51,8 @@ impl Trial {
         let sheet = sheet(plan);
         let work = vec![0; cazdrob::cells(&sheet)];
         let columns = vec![0; plan.top + plan.bottom];
-        Trial { sheet, list: columns.clone(), columns, work, spans: vec![Span::default(); NETS_MAX] }
+        let spans = vec![Span::default(); NETS_MAX];
+        Trial { length: plan.length, sets: sets(), sheet, list: columns.clone(), columns, work, spans }
     }
 
     /// With a clean list: the top pins in columns 1, 3, 5 and so on, the bottom pins in columns 2, 4, 6 and so on.
@@ -58,6 +65,11 @@ impl Trial {
         let sheet = black_box(&self.sheet[..]);
         let list = black_box(&self.list[..]);
         match job {
+            Job::Check => cazdrob::check(sheet).map(|()| 0).map_err(refused),
+            Job::PlainCheck => plain::check(sheet).map(|()| 0).map_err(|number| (number, 0)),
+            Job::Test => Ok(count_beyond(&self.sets, self.length, cazdrob::beyond)),
+            // through a pointer, so that it is a call as the library's is
+            Job::PlainTest => Ok(count_beyond(&self.sets, self.length, black_box(plain::beyond as fn(_, _) -> _))),
             Job::Search => cazdrob::search(sheet, &mut self.columns, &mut self.work).map_err(refused),
             Job::PlainSearch => plain::search(sheet, &mut self.columns, &mut self.work).map_err(|number| (number, 0)),
             Job::Measure => cazdrob::measure(sheet, list).map_err(refused),
@@ -103,6 +115,18 @@ impl Trial {
         Ok(found[0].0)
     }
 
+    /// Both programs have to give the same answer of the sheet, which is sound, and of each set.
+    fn agree_on_checks(&mut self) -> Result<(), String> {
+        let answers = [Job::Check, Job::PlainCheck].map(|job| self.job(job));
+        if answers != [Ok(0); 2] {
+            return Err(format!("checking: the library gives {:?}, the plain program {:?}", answers[0], answers[1]));
+        }
+        match self.sets.iter().find(|&&set| cazdrob::beyond(set, self.length) != plain::beyond(set, self.length)) {
+            Some(set) => Err(format!("the two differ on set {set:#x} on {} columns", self.length)),
+            None => Ok(()),
+        }
+    }
+
     /// Both programs have to give the same tracks and leave the same records.
     fn agree_on_tracks(&mut self) -> Result<Tracks, String> {
         let (sheet, list) = (&self.sheet[..], &self.list[..]);
@@ -146,6 +170,11 @@ impl Trial {
     }
 }
 
+fn count_beyond(sets: &[u64], length: usize, test: impl Fn(u64, usize) -> bool) -> u32 {
+    let (sets, length) = (black_box(sets), black_box(length));
+    sets.iter().map(|&set| u32::from(test(set, length))).sum()
+}
+
 /// The low byte of a number of the trailer: 10 bytes from the end is p, 6 is q.
 fn low_byte(sheet: &[u8], from_end: usize) -> u8 {
     sheet[sheet.len() - from_end]
@@ -168,6 +197,17 @@ fn track_rows() -> Vec<(&'static str, Plan)> {
         ("32 a side on 64", open(32, 64)),
         ("32 a side on 64, two pins a net", Plan { nets: 32, ..open(32, 64) }),
         ("32 a side on 64, leaving nets", Plan { nets: 64, first_net: 64_001, ..open(32, 64) }),
+    ]
+}
+
+/// Sheets, and then lengths against which the sets are tested.
+fn check_rows() -> Vec<(&'static str, Plan)> {
+    vec![
+        ("5 a side on 12", open(5, 12)),
+        ("64 a side on 64", open(64, 64)),
+        ("128 sets on 12", open(0, 12)),
+        ("128 sets on 40", open(0, 40)),
+        ("128 sets on 64", open(0, 64)),
     ]
 }
 
@@ -218,6 +258,26 @@ Both leave every work cell 0, as the rules ask. clearing: the share of that in t
 Row 5 is row 2 with the last top terminal held to columns 1 to 15. No list is an assignment of it: the measured one
 has the columns 1 to 16 on each side and both refuse it with 13.",
         SHORTEST_RUN.as_millis()
+    );
+    Ok(())
+}
+
+fn check_table() -> Result<(), String> {
+    println!("\nChecks of a sheet, and the test of a set against the channel's end\n");
+    println!("{:<3}  {:<15}  {:>7}  {:>11}{:>11}{:>8}", "row", "checked", "beyond", "Cazdrob", "plain", "ratio");
+    for (k, (name, plan)) in check_rows().iter().enumerate() {
+        let jobs = if plan.top > 0 { [Job::Check, Job::PlainCheck] } else { [Job::Test, Job::PlainTest] };
+        let mut trial = Trial::new(plan);
+        trial.agree_on_checks().map_err(|why| format!("row {} of checks: {why}", k + 1))?;
+        let beyond = shown(trial.job(jobs[0]));
+        let [ours, plain] = trial.time(jobs);
+        let ratio = plain / ours;
+        println!("{:<3}  {name:<15}  {beyond:>7}  {:>11}{:>11}{ratio:>8.2}", k + 1, span(ours), span(plain));
+    }
+    println!(
+        "
+beyond: how many of the sets name a column above the last, in rows 1 and 2 those of the sheet. Before the timing both
+gave the same answers. In rows 3 to 5 a time is that of 128 calls, one for each set, in the plain program too."
     );
     Ok(())
 }
@@ -280,7 +340,8 @@ one with distances. Another machine and other sheets: only the order of magnitud
 }
 
 fn only(words: &[String]) -> Result<(), String> {
-    let usage = "usage: bench/run [--only ROW search|plain|measure|plain-measure|tracks|plain-tracks N]";
+    let usage = "usage: bench/run [--only ROW JOB N], where JOB is search, plain, measure, plain-measure, check, plain-check, test, \
+                 plain-test, tracks or plain-tracks";
     let [row, job, times] = words else {
         return Err(usage.into());
     };
@@ -291,12 +352,20 @@ fn only(words: &[String]) -> Result<(), String> {
         "plain" => Job::PlainSearch,
         "measure" => Job::Measure,
         "plain-measure" => Job::PlainMeasure,
+        "check" => Job::Check,
+        "plain-check" => Job::PlainCheck,
+        "test" => Job::Test,
+        "plain-test" => Job::PlainTest,
         "tracks" => Job::Tracks,
         "plain-tracks" => Job::PlainTracks,
         _ => return Err(usage.into()),
     };
     let of_tracks = matches!(job, Job::Tracks | Job::PlainTracks);
-    let rows = if of_tracks { track_rows() } else { rows() };
+    let rows = match job {
+        Job::Tracks | Job::PlainTracks => track_rows(),
+        Job::Check | Job::PlainCheck | Job::Test | Job::PlainTest => check_rows(),
+        _ => rows(),
+    };
     let (_, plan) = row.checked_sub(1).and_then(|k| rows.get(k)).ok_or("no such row")?;
     let mut trial = if of_tracks { Trial::clean(plan) } else { Trial::new(plan) };
     if matches!(job, Job::Measure | Job::PlainMeasure) {
@@ -309,6 +378,7 @@ fn only(words: &[String]) -> Result<(), String> {
 
 fn tables() -> Result<(), String> {
     main_table()?;
+    check_table()?;
     track_table()?;
     growth("Search as L doubles", &[16, 32, 64].map(|length| open(8, length)))?;
     growth("Search as p and q double", &[4, 8, 16, 32].map(|pins| open(pins, 64)))?;

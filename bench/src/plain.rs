@@ -30,29 +30,43 @@ fn half(bytes: &[u8], at: usize) -> usize {
     usize::from(u16::from_le_bytes([bytes[at], bytes[at + 1]]))
 }
 
+/// Whether the set names a column above so many.
+pub fn beyond(set: u64, columns: usize) -> bool {
+    columns < 64 && set >> columns != 0
+}
+
+fn read_terminal(record: &[u8], first: bool, length: usize) -> Result<Terminal, u32> {
+    let net = u16::from_le_bytes([record[0], record[1]]);
+    let (least, greatest) = (usize::from(record[2]), usize::from(record[3]));
+    let allowed = u64::from_le_bytes(record[4..12].try_into().unwrap());
+    if net == 0 {
+        return Err(6);
+    }
+    let sound = if first { least == 0 && greatest == 0 } else { 1 <= least && least <= greatest };
+    if !sound {
+        return Err(7);
+    }
+    if beyond(allowed, length) {
+        return Err(8);
+    }
+    Ok(Terminal { net, least, greatest, allowed })
+}
+
+/// The terminals of a section, each read as it is asked for.
+fn terminals(section: &[u8], length: usize) -> impl Iterator<Item = Result<Terminal, u32>> + '_ {
+    section.chunks_exact(12).enumerate().map(move |(place, record)| read_terminal(record, place == 0, length))
+}
+
 fn read_side(section: &[u8], length: usize) -> Result<Vec<Terminal>, u32> {
     let mut side = Vec::with_capacity(section.len() / 12);
-    for (place, record) in section.chunks_exact(12).enumerate() {
-        let net = u16::from_le_bytes([record[0], record[1]]);
-        let (least, greatest) = (usize::from(record[2]), usize::from(record[3]));
-        let allowed = u64::from_le_bytes(record[4..12].try_into().unwrap());
-        if net == 0 {
-            return Err(6);
-        }
-        let sound = if place == 0 { least == 0 && greatest == 0 } else { 1 <= least && least <= greatest };
-        if !sound {
-            return Err(7);
-        }
-        if length < 64 && allowed >> length != 0 {
-            return Err(8);
-        }
-        side.push(Terminal { net, least, greatest, allowed });
+    for terminal in terminals(section, length) {
+        side.push(terminal?);
     }
     Ok(side)
 }
 
-/// Reads a sheet, or gives the number of its refusal, 1 to 8.
-fn read(sheet: &[u8]) -> Result<Channel, u32> {
+/// The number of columns and the two sections of a sheet, or the number of its refusal, 1 to 5.
+fn layout(sheet: &[u8]) -> Result<(usize, &[u8], &[u8]), u32> {
     if sheet.len() < 12 {
         return Err(1);
     }
@@ -72,9 +86,24 @@ fn read(sheet: &[u8]) -> Result<Channel, u32> {
     if sheet.len() != 12 * (p + q) + 12 || !in_place {
         return Err(5);
     }
-    let top = read_side(&sheet[top..top + 12 * p], length)?;
-    let bottom = read_side(&sheet[bottom..bottom + 12 * q], length)?;
-    Ok(Channel { length, top, bottom })
+    Ok((length, &sheet[top..top + 12 * p], &sheet[bottom..bottom + 12 * q]))
+}
+
+/// Reads a sheet, or gives the number of its refusal, 1 to 8.
+fn read(sheet: &[u8]) -> Result<Channel, u32> {
+    let (length, top, bottom) = layout(sheet)?;
+    Ok(Channel { length, top: read_side(top, length)?, bottom: read_side(bottom, length)? })
+}
+
+/// Whether a sheet is sound, or the number of its refusal, 1 to 8. Nothing is kept of its terminals.
+pub fn check(sheet: &[u8]) -> Result<(), u32> {
+    let (length, top, bottom) = layout(sheet)?;
+    for section in [top, bottom] {
+        for terminal in terminals(section, length) {
+            terminal?;
+        }
+    }
+    Ok(())
 }
 
 /// Whether a net leaves at the left and at the right, by its number.

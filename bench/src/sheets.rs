@@ -31,6 +31,12 @@ pub fn open(pins: usize, length: usize) -> Plan {
     Plan { length, top: pins, bottom: pins, nets: (2 * pins * 2).div_ceil(5), first_net: 1, range: (1, 255), last_top: length }
 }
 
+/// Sets of the columns from 1 to a drawn one.
+pub fn sets() -> Vec<u64> {
+    let mut draws = Draws(0x3c6e_f372_fe94_f82a);
+    (0..128).map(|_| u64::MAX >> draws.below(64)).collect()
+}
+
 /// The bytes of a sheet whose pins are dealt to the nets in turn and then shuffled, each side by itself.
 pub fn sheet(plan: &Plan) -> Vec<u8> {
     let pins = plan.top + plan.bottom;
