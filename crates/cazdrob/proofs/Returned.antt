@@ -44,7 +44,7 @@ host_beyond {columns} {set} {r} = by-test (names_above columns set) refl
         }
     by-test false above zero = record {
       beyond = (λ eight. absurd (omega arith), λ some. absurd (true≢false (sym ((names_above_exactly columns set).1 some) ∙ above)));
-      within = (λ e. λ c behind. allows-below set columns c (leb-false (2 ^ columns) set above) behind, λ none. zero);
+      within = (λ e c behind. allows-below set columns c (leb-false (2 ^ columns) set above) behind, λ none. zero);
     }
 
 pub host_distance :

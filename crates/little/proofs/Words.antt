@@ -1,7 +1,7 @@
 -- A number in n bytes is the word that begins with them and has 0 in its bytes above.
 -- Assumes nothing.
 use Rattle.std.proofs.Common.{◌≡◌, ℕ, zero, suc, ◌+◌, ◌-◌, ◌*◌, ◌^◌, ◌<◌, ◌≤◌, List, [], ◌∷◌, ◌++◌, length, get_or, take, drop, replicate, refl, ap, ◌∙◌, zero-add, one-add, arith, pow-suc, pow-add, length-take, length-drop}
-use Rattle.std.proofs.lemmas.List.{get_or-take, get_or-drop}
+use Rattle.std.proofs.lemmas.List.{get_or-take, get_or-drop, drop-replicate}
 use Rattle.little.specs.Little.{little}
 use Rattle.little.proofs.Laws.{same-bytes}
 
@@ -32,9 +32,9 @@ little-padded (x ∷ bs) m (suc n) e =
 -- the word of the n bytes from a place on
 pub little-word :
     (n at : ℕ) (b : List ℕ) → at + n ≤ length b → n ≤ 8
-    → little 8 (take n (drop at b) ++ replicate {A = ℕ} (8 - n) 0) 0 ≡ little n b at
+    → little 8 (take n (drop at b) ++ drop n (replicate {A = ℕ} 8 0)) 0 ≡ little n b at
 little-word n at b inside few =
-    little-padded bytes (8 - n) 8 (omega (arith, size)) ∙ ap (λ (k : ℕ). little k bytes 0) size ∙ same-bytes n bytes b 0 at same
+    rw (drop-replicate {X = ℕ} n 8 0) (little-padded bytes (8 - n) 8 (omega (arith, size))) ∙ ap (λ (k : ℕ). little k bytes 0) size ∙ same-bytes n bytes b 0 at same
   where
     bytes : List ℕ
     bytes = take n (drop at b)
