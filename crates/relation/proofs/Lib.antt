@@ -1,0 +1,4 @@
+pub mod Reach
+pub mod Longest
+pub mod Same
+pub mod Sets
