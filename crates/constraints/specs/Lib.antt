@@ -1,0 +1,2 @@
+pub mod Constraints
+pub mod Listed
