@@ -1,0 +1,3 @@
+pub mod Chains
+pub mod Answer
+pub mod Returned
