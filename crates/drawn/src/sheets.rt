@@ -88,6 +88,17 @@ pub fn sheet_of(n: u64, plan: Plan) -> Sheet {
     }
 }
 
+// The sheet of a plan; three of four have full sets, so that most have assignments.
+pub fn roomy_sheet_of(n: u64, plan: Plan) -> Sheet {
+    let mut sheet = sheet_of(n, plan);
+    if n % 4 != 0 {
+        for record in sheet.records.iter_mut() {
+            record.allowed = full_set(sheet.columns);
+        }
+    }
+    sheet
+}
+
 // Terminal t of sheet n, which has this plan.
 #[derive(Clone, Copy)]
 struct Pin {
@@ -112,18 +123,14 @@ impl Pin {
         }
     }
 
-    // One to five nets. On some sheets they differ in the upper byte only, and on half of them each has a drawn kind.
+    // One to five nets.
     fn net(self, digits: u64) -> u16 {
         let k = if self.n < REGULAR {
             (digits % 3) as u8
         } else {
             self.draw(7, 0..=draw(self.n, 8, 0, 0..=4))
         };
-        match draw(self.n, 9, 0, 0..=7) {
-            0 | 1 => 256 * k as u16 + 255,
-            2 | 3 => k as u16 + 1,
-            _ => net_of_drawn_kind(self.n, k),
-        }
+        net_of(self.n, k)
     }
 
     // Mostly one kind for the whole sheet.
@@ -204,6 +211,15 @@ impl Pin {
     }
 }
 
+// Net k of sheet n. On some sheets the nets differ in the upper byte only, and on half of them each has a drawn kind.
+pub fn net_of(n: u64, k: u8) -> u16 {
+    match draw(n, 9, 0, 0..=7) {
+        0 | 1 => 256 * k as u16 + 255,
+        2 | 3 => k as u16 + 1,
+        _ => net_of_drawn_kind(n, k),
+    }
+}
+
 // A net of a drawn kind, plain or leaving at the left, at the right or at both ends: so many numbers from the first or the last of
 // its kind.
 fn net_of_drawn_kind(n: u64, k: u8) -> u16 {
@@ -239,7 +255,7 @@ pub fn put_sheet(page: &mut Page, plan: Plan, sheet: &Sheet) {
 
 // Which record of the file terminal t has.
 fn record_place(plan: Plan, t: usize) -> usize
-    requires { t ≤ 9 }
+    requires { t ≤ 12 }
 {
     let (top_at, bottom_at) = plan.starts();
     let p = plan.top as usize;

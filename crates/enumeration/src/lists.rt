@@ -1,7 +1,7 @@
 // The lists of one allowed column for each terminal, by number.
 use crate::{List, ROOM, Sheet};
 
-// How many lists of allowed columns a sheet has. No sheet that is tried has more than 65,536.
+// How many lists of allowed columns a sheet has. No sheet whose lists are counted has more than 65,536.
 pub fn count_lists(sheet: &Sheet) -> u64 {
     sheet.terminals().iter().fold(1u64, |lists, terminal| {
         lists.saturating_mul(terminal.allowed.count_ones() as u64)

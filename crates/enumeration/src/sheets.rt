@@ -5,7 +5,7 @@ use arrayvec::ArrayVec;
 use terminal::Record;
 
 // The most terminals of a sheet, and the most columns of a list.
-pub const ROOM: usize = 9;
+pub const ROOM: usize = 12;
 
 // A column for each terminal, of which the sheet says how many: an `ArrayVec` could not be copied, as a list is.
 pub type List = [u8; ROOM];
@@ -24,14 +24,14 @@ pub struct Sheet {
 impl Sheet {
     // p+q, of a sheet that keeps to its room.
     pub fn pins(&self) -> usize
-        ensures { result ≤ 9 }
+        ensures { result ≤ 12 }
     {
         (self.top as usize + self.bottom as usize).min(ROOM)
     }
 
     // The terminals that there are.
     pub fn terminals(&self) -> &[Record]
-        ensures { length result.now ≤ 9 }
+        ensures { length result.now ≤ 12 }
     {
         &self.records[..self.pins()]
     }
@@ -45,6 +45,15 @@ impl Sheet {
             }
         }
         nets
+    }
+
+    // Whether a net has one pin and no more.
+    pub fn has_one_pin(&self, net: u16) -> bool {
+        let pins = self
+            .terminals()
+            .iter()
+            .filter(|terminal| terminal.net == net);
+        pins.count() == 1
     }
 }
 

@@ -62,7 +62,7 @@ impl<'a> Trial<'a> {
         Trial { kind, case, list }
     }
 
-    // What a call is lent. `routings` lends by kinds of its own, and no longer list: what is alike is `shorter` and `cut`, which both call.
+    // What a call is lent. The lists of `drawn` have other kinds, and none is longer: what is alike is `shorter` and `cut`, which both call.
     fn lend(&self) -> Lent<'_> {
         let pins = self.case.sheet.pins();
         let list = &self.list;
@@ -115,7 +115,7 @@ fn draw_columns(n: u64, sheet: &Sheet) -> List {
     list
 }
 
-// Another column for one terminal: mostly one from 0 to L, sometimes any byte. `routings` draws both from other ranges, so that only the
+// Another column for one terminal: mostly one from 0 to L, sometimes any byte. `drawn` draws both from other ranges, so that only the
 // write would be left for a function of both.
 fn change(n: u64, sheet: &Sheet, start: List) -> List {
     let mut list = start;

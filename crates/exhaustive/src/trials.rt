@@ -77,7 +77,7 @@ impl Case {
 
     // What a call is lent that is to give the answer.
     fn lent(&self) -> Lent<'_>
-        ensures { (result.bytes ≤ 9) × (result.cells ≤ 4294967296) }
+        ensures { (result.bytes ≤ 12) × (result.cells ≤ 4294967296) }
     {
         Lent {
             sheet: self.page.sheet(),

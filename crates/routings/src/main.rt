@@ -6,7 +6,6 @@ use tally::Tally;
 use trials::Shared;
 
 mod answers;
-mod lists;
 mod tally;
 mod trials;
 
@@ -14,6 +13,9 @@ const SHEETS: u64 = 30000;
 
 // Every fifth sheet of `drawn` is taken, so that about a third are regular ones.
 const STEP: u64 = 5;
+
+// The lists of each sheet.
+const LISTS: u8 = 10;
 
 fn route_all<W: Write>(shared: &mut Shared<W>) -> io::Result<()> {
     for n in 0..SHEETS {

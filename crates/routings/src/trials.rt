@@ -1,9 +1,10 @@
 // One sheet: the library's answer to each of its cases against the program's own reading of the rule.
+use crate::LISTS;
 use crate::answers::Shown;
-use crate::lists::{LISTS, Trial};
 use crate::tally::Tally;
-use enumeration::{Pins, Sheet};
-use fixtures::{Lent, Page, Plan, full_set};
+use drawn::{Choice, Trial};
+use enumeration::Pins;
+use fixtures::{Lent, Page};
 use printing::Columns;
 use std::fmt;
 use std::io::{self, Write};
@@ -28,22 +29,21 @@ impl fmt::Display for Case<'_> {
     }
 }
 
+// Room for too few spans, if there are nets, for as many as there are nets, or for more.
+fn room_for(trial: Trial) -> usize {
+    let nets = trial.sheet.nets().len();
+    match trial.draw(45, 0..=2) {
+        0 => nets.saturating_sub(1),
+        1 => nets,
+        _ => nets + 2,
+    }
+}
+
 // What all sheets share: where differences are written, and what has occurred so far.
 #[derive(Drop)]
 pub struct Shared<'a, W> {
     pub out: &'a mut W,
     pub tally: Tally,
-}
-
-// Sheet n of `drawn`; three of four have full sets, so that most have assignments.
-fn sheet_of(n: u64, plan: Plan) -> Sheet {
-    let mut sheet = drawn::sheet_of(n, plan);
-    if n % 4 != 0 {
-        for record in sheet.records.iter_mut() {
-            record.allowed = full_set(sheet.columns);
-        }
-    }
-    sheet
 }
 
 impl<W: Write> Shared<'_, W> {
@@ -73,7 +73,7 @@ impl<W: Write> Shared<'_, W> {
             n,
             pins: Pins { sheet, list: &list },
             lent: kind.lend(all),
-            room: trial.room(),
+            room: room_for(trial),
         };
         self.try_case(&case)
     }
@@ -81,7 +81,7 @@ impl<W: Write> Shared<'_, W> {
     // Every list of sheet n.
     pub fn try_sheet(&mut self, n: u64) -> io::Result<()> {
         let plan = drawn::plan_of(n);
-        let sheet = sheet_of(n, plan);
+        let sheet = drawn::roomy_sheet_of(n, plan);
         let mut page = Page::new();
         drawn::put_sheet(&mut page, plan, &sheet);
         for k in 0..LISTS {
@@ -89,6 +89,7 @@ impl<W: Write> Shared<'_, W> {
                 n,
                 k,
                 sheet: &sheet,
+                choice: Choice::Alone,
             };
             self.try_list(trial, &page)?;
         }

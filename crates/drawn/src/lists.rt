@@ -1,23 +1,32 @@
-// The lists that are routed on a sheet: drawn so that clean assignments are frequent and every refusal occurs.
+// The lists that are tried on a sheet: drawn so that assignments of a program's choice are frequent and every refusal occurs.
 ghost use Rattle.std.specs.Prelude.{◌≤◌};
 
-use drawn::{bits, draw, single};
-use enumeration::{List, ROOM, Sheet, column};
+use crate::draws::{bits, draw};
+use crate::sheets::single;
+use enumeration::{List, ROOM, Sheet, column, list_of};
 use fixtures::{Lent, full_set};
 use std::ops::RangeInclusive;
 use terminal::Record;
 
-pub const LISTS: u8 = 10;
+// In which of the columns in range pins stand, where there are such.
+#[derive(Clone, Copy, Debug, PartialEq, Eq)]
+pub enum Choice {
+    Any,
+    // those without a pin of another net
+    Alone,
+    // those with one
+    Facing,
+}
 
-// What kind of list is routed.
+// What kind of list is tried.
 #[derive(Clone, Copy, Debug, PartialEq, Eq)]
 pub enum Kind {
     // drawn columns that are allowed
     Allowed,
     // pins in range, one behind the other, where they may stand on pins of other nets
     InRange,
-    // pins in range that stand on none of another net, where that can be had
-    Clean,
+    // pins in range by the program's choice
+    Chosen,
     // such a list with one column changed, without its last one if it has any, and on the sheet without its last byte
     Changed,
     Shorter,
@@ -35,17 +44,18 @@ impl Kind {
     }
 }
 
-// List k of sheet n.
+// List k of sheet n, and the choice of the program that tries it.
 #[derive(Clone, Copy)]
 pub struct Trial<'a> {
     pub n: u64,
     pub k: u8,
     pub sheet: &'a Sheet,
+    pub choice: Choice,
 }
 
 impl Trial<'_> {
     // A number that is drawn for this list.
-    fn draw(self, what: u64, range: RangeInclusive<u8>) -> u8 {
+    pub fn draw(self, what: u64, range: RangeInclusive<u8>) -> u8 {
         draw(self.n, what, self.k as usize, range)
     }
 
@@ -56,23 +66,24 @@ impl Trial<'_> {
             2 => Kind::Shorter,
             3 => Kind::Cut,
             4 | 5 => Kind::InRange,
-            _ => Kind::Clean,
+            _ => Kind::Chosen,
         }
     }
 
     pub fn list(self, kind: Kind) -> List {
         match kind {
-            Kind::Allowed => enumeration::list_of(bits(self.n, 41, self.k as usize), self.sheet),
-            Kind::InRange => self.draw_list(false),
-            Kind::Changed => self.change(self.draw_list(true)),
-            _ => self.draw_list(true),
+            Kind::Allowed => list_of(bits(self.n, 41, self.k as usize), self.sheet),
+            Kind::InRange => self.draw_list(Choice::Any),
+            Kind::Changed => self.change(self.draw_list(self.choice)),
+            _ => self.draw_list(self.choice),
         }
     }
 
-    // Another column for one terminal, or for none. `exhaustive` draws both from other ranges, and changes one always.
+    // Another column for one of the first ten terminals, if there are so many. `exhaustive` draws both from other ranges, and changes one
+    // always.
     fn change(self, start: List) -> List {
         let mut list = start;
-        let t = self.draw(42, 0..=ROOM as u8) as usize;
+        let t = self.draw(42, 0..=9) as usize;
         if t < ROOM {
             list[t] = self.draw(43, 0..=self.sheet.columns);
         }
@@ -80,7 +91,7 @@ impl Trial<'_> {
     }
 
     // A list drawn terminal by terminal.
-    fn draw_list(self, clean: bool) -> List {
+    fn draw_list(self, choice: Choice) -> List {
         let sheet = self.sheet;
         let mut list = [0; ROOM];
         // by index, since each column is drawn from those that the list has so far
@@ -90,19 +101,9 @@ impl Trial<'_> {
                 terminal: sheet.records[t],
                 before: &list[..t],
             };
-            list[t] = next.choose(clean, bits(self.n, 50 + self.k as u64, t));
+            list[t] = next.choose(choice, bits(self.n, 50 + self.k as u64, t));
         }
         list
-    }
-
-    // Room for too few spans, if there are nets, for as many as there are nets, or for more.
-    pub fn room(self) -> usize {
-        let nets = self.sheet.nets().len();
-        match self.draw(45, 0..=2) {
-            0 => nets.saturating_sub(1),
-            1 => nets,
-            _ => nets + 2,
-        }
     }
 }
 
@@ -116,19 +117,23 @@ struct Next<'a> {
 
 impl Next<'_> {
     // One of the first columns to choose from, by a drawn number: so many that the terminals behind mostly find a column too.
-    fn choose(self, clean: bool, number: u64) -> u8 {
-        let set = self.choices(clean);
+    fn choose(self, choice: Choice, number: u64) -> u8 {
+        let set = self.choices(choice);
         let few = (set.count_ones() as u64).div_ceil(self.behind() + 1);
         column(set, number % few.max(1))
     }
 
-    // The columns to choose from: those in range that no other net has, if they are asked for and there are any; else those in range,
-    // if there are any; else all that are allowed.
-    fn choices(self, clean: bool) -> u64 {
+    // The columns to choose from: those in range of the choice, if there are any; else those in range, if there are any; else all that are
+    // allowed.
+    fn choices(self, choice: Choice) -> u64 {
         let near = self.terminal.allowed & self.in_range();
-        let free = near & !self.other_nets();
-        if clean && free != 0 {
-            free
+        let chosen = match choice {
+            Choice::Any => near,
+            Choice::Alone => near & !self.other_nets(),
+            Choice::Facing => near & self.other_nets(),
+        };
+        if chosen != 0 {
+            chosen
         } else if near != 0 {
             near
         } else {
@@ -169,8 +174,8 @@ impl Next<'_> {
     }
 }
 
-// The columns that are at least so many behind one. This and `up_to` are the program's own reading of a distance pair, since it asks the
-// library nothing that it checks by it.
+// The columns that are at least so many behind one. This and `up_to` are the tests' own reading of a distance pair: they ask the library
+// nothing that they check.
 fn from(before: u8, least: u8) -> u64 {
     match before.saturating_add(least) {
         0 => u64::MAX,
