@@ -2,15 +2,15 @@
  * Cazdrob: the best pin assignment of a routing channel, for C and C++.
  *
  * docs/FORMAT.md has the rules: how a sheet is written, which assignment is the best one, which track each net of a clean assignment gets,
- * how two sides of modules become a sheet, what each refusal means.
+ * what a chain of vertical constraints is, how two sides of modules become a sheet, what each refusal means.
  *
  * What the caller owes, in every call:
  *   - no pointer is null, not even one with length 0;
- *   - each points to as many elements as its length says (density, amount, nets, tracks and written: to one), readable, and writable where
- *     it is not const, and is aligned for its type;
+ *   - each points to as many elements as its length says (density, amount, nets, tracks, chain, bound, net and written: to one), readable,
+ *     and writable where it is not const, and is aligned for its type;
  *   - none has a length of more than PTRDIFF_MAX bytes;
- *   - what is written (columns and work of a search, spans, the sheet that is made, density, amount, nets, tracks, written) overlaps
- *     nothing else that is passed;
+ *   - what is written (columns and work of a search, spans, the sheet that is made, density, amount, nets, tracks, chain, bound, net,
+ *     written) overlaps nothing else that is passed;
  *   - during the call no other thread writes what was passed, and none reads what is written. Several threads may pass one sheet.
  * Nothing else is asked: every content of these buffers, every length and every byte has its answer.
  *
@@ -18,8 +18,8 @@
  *   - the result and what is left in every buffer are as said below, on good input and on bad;
  *   - no memory is allocated, no state is kept between calls, nothing but the buffers is written, and every call returns.
  *
- * The stack is not part of the promise. Measured on x86-64, a search takes less than 20,000 bytes of it, tracks less than 7,000, the others
- * less than 2,000.
+ * The stack is not part of the promise. Measured on x86-64, a search takes less than 20,000 bytes of it, tracks less than 7,000, a chain less
+ * than 4,000, the others less than 2,000.
  */
 #ifndef CAZDROB_H
 #define CAZDROB_H
@@ -36,13 +36,14 @@ extern "C" {
  *   - of a sheet: 1 to 5 in turn, then each terminal, top then bottom, for 6, 7 and 8, then 9 to 11 in a search, 12 to 14 in a measurement:
  *     13 over all terminals, then 14 over all pairs, top then bottom;
  *   - of tracks: as of a measurement, then 18 and 9;
+ *   - of a chain: as of a measurement, then 19;
  *   - of modules: 3, then 16 over all modules, top then bottom, then 17 likewise, then 4, 6 and 9.
  * 15 is the program's alone.
  */
 enum cazdrob_number {
     CAZDROB_OK = 0,
-    /* the sheet: given by cazdrob_check, cazdrob_measure, cazdrob_search and cazdrob_tracks; 3, 4 and 6 by cazdrob_modules too, 8 by
-     * cazdrob_beyond */
+    /* the sheet: given by cazdrob_check, cazdrob_measure, cazdrob_search, cazdrob_tracks and cazdrob_chain; 3, 4 and 6 by cazdrob_modules
+     * too, 8 by cazdrob_beyond */
     CAZDROB_SHORT = 1,    /* the sheet is shorter than 12 bytes */
     CAZDROB_MARK = 2,     /* its last two bytes are not CP */
     CAZDROB_LENGTH = 3,   /* L is 0 or above 64 */
@@ -55,7 +56,7 @@ enum cazdrob_number {
     CAZDROB_COLUMNS = 9,        /* the column buffer is shorter than p+q bytes */
     CAZDROB_CELLS = 10,         /* the work buffer is shorter than cazdrob_cells says */
     CAZDROB_NO_ASSIGNMENT = 11, /* no assignment exists */
-    /* given by cazdrob_measure and cazdrob_tracks */
+    /* given by cazdrob_measure, cazdrob_tracks and cazdrob_chain */
     CAZDROB_LIST_LENGTH = 12,  /* the list is not p+q long */
     CAZDROB_NOT_ALLOWED = 13,  /* a listed column is not in its terminal's set */
     CAZDROB_OUT_OF_RANGE = 14, /* a distance is out of range, by *amount columns */
@@ -65,7 +66,9 @@ enum cazdrob_number {
     CAZDROB_EDGE = 17,        /* a module's set names a left edge from which it does not fit the channel */
     /* given by cazdrob_tracks alone; its 9 is the array of records */
     CAZDROB_SPAN_BUFFER = 9, /* the array has fewer records than the sheet has nets */
-    CAZDROB_TWO_NETS = 18    /* a column has pins of two nets */
+    CAZDROB_TWO_NETS = 18,   /* a column has pins of two nets */
+    /* given by cazdrob_chain alone */
+    CAZDROB_CIRCLE = 19 /* the vertical constraints have a circle; *net is the lowest net on one */
 };
 
 /* Enough for every sound sheet: its bytes, the columns of its terminals, and the records of its nets. */
@@ -160,6 +163,32 @@ uint32_t cazdrob_tracks(const uint8_t *sheet, size_t sheet_len,
                         const uint8_t *columns, size_t columns_len,
                         struct cazdrob_span *spans, size_t spans_len,
                         size_t *nets, uint32_t *tracks, int32_t *amount);
+
+/*
+ * The longest chain of vertical constraints of an assignment, and the greater of it and the density: a wiring in two layers that gives each
+ * net one track takes at least *bound tracks. The column list is as in a measurement.
+ *
+ * Net a lies over net b where a column has a pin of a on top and a pin of b at the bottom, the two nets are different, and neither is a
+ * plain net with one pin on the sheet. A net that leaves the channel counts here with one pin too. A chain is a list of nets in which each
+ * lies over the next, a circle a chain of two nets or more whose last net lies over its first. A net that only leads into a circle, out of
+ * one or from one to another is not on a circle.
+ *
+ * The refusals, in their order:
+ *   1 to 8 and 12 to 14, as of cazdrob_measure;
+ *   19  there is a circle.
+ * The sheet and the list may overlap, as neither is written. What chain, bound, net and amount held before plays no part.
+ *
+ *   returned          *chain                    *bound                  *net                        *amount
+ *   0                 the number of nets of     the greater of *chain   0                           0
+ *                     the longest chain, or 0   and the density, as of
+ *                     where none lies over any  cazdrob_measure
+ *   19                0                         0                       the lowest net on a circle  0
+ *   14                0                         0                       0                           as of cazdrob_measure
+ *   1 to 8, 12 or 13  0                         0                       0                           0
+ */
+uint32_t cazdrob_chain(const uint8_t *sheet, size_t sheet_len,
+                       const uint8_t *columns, size_t columns_len,
+                       uint32_t *chain, uint32_t *bound, uint32_t *net, int32_t *amount);
 
 /*
  * Makes the sheet of two sides of modules, such as two rows of standard cells. A module covers some columns, has its pins in fixed places

@@ -1,6 +1,6 @@
 /*
- * Tests the C functions: sheet A and others, tracks, modules, with every byte around the lent buffers held to what it was. Each number
- * that a function can return is seen. Names each case that fails; the last line is 'N passed, M failed'.
+ * Tests the C functions: sheet A and others, tracks, chains, modules, with every byte around the lent buffers held to what it was. Each
+ * number that a function can return is seen. Names each case that fails; the last line is 'N passed, M failed'.
  */
 #include <cazdrob.h>
 #include <stdio.h>
@@ -152,12 +152,58 @@ static int routes(const uint8_t *sheet, size_t len, const uint8_t *list, size_t 
            tracks[0] == DENSITY && tracks[2] == DENSITY && amount[0] == AMOUNT && amount[2] == AMOUNT;
 }
 
-/* a list of sheet BOUND that is refused with 14 and this amount, measured and for tracks */
+/* whether a call for the chain returns the number and leaves the chain, the bound, the net, the amount and nothing else */
+static int chains(const uint8_t *sheet, size_t len, const uint8_t *list, size_t count, uint32_t number, uint32_t wanted, uint32_t least,
+                  uint32_t on, int32_t by) {
+    uint32_t chain[3] = {DENSITY, DENSITY, DENSITY}, bound[3] = {DENSITY, DENSITY, DENSITY}, net[3] = {DENSITY, DENSITY, DENSITY};
+    int32_t amount[3] = {AMOUNT, AMOUNT, AMOUNT};
+    if (cazdrob_chain(sheet, len, list, count, &chain[1], &bound[1], &net[1], &amount[1]) != number) return 0;
+    for (size_t i = 0; i < 3; i += 2) {
+        if (chain[i] != DENSITY || bound[i] != DENSITY || net[i] != DENSITY || amount[i] != AMOUNT) return 0;
+    }
+    return chain[1] == wanted && bound[1] == least && net[1] == on && amount[1] == by;
+}
+
+/* the records of a row of pins held to columns 1, 2 and so on, where net 0 is no pin, and their columns; gives how many pins there are */
+static size_t put_row(uint8_t *records, uint8_t *list, const uint16_t *row, size_t columns) {
+    size_t pins = 0;
+    for (size_t column = 1; column <= columns; column++) {
+        uint16_t net = row[column - 1];
+        if (net == 0) continue;
+        uint8_t *record = records + 12 * pins;
+        memset(record, 0, 12);
+        record[0] = (uint8_t)net;
+        record[1] = (uint8_t)(net >> 8);
+        if (pins > 0) record[2] = 1, record[3] = 255;
+        record[4 + (column - 1) / 8] = (uint8_t)(1 << (column - 1) % 8);
+        list[pins++] = (uint8_t)column;
+    }
+    return pins;
+}
+
+/* whether a call for the chain of two such rows returns the number and leaves the chain, the bound and the net */
+static int rows(const uint16_t *top, const uint16_t *bottom, size_t columns, uint32_t number, uint32_t wanted, uint32_t least,
+                uint32_t on) {
+    uint8_t sheet[CAZDROB_SHEET_MAX], list[CAZDROB_COLUMNS_MAX];
+    size_t p = put_row(sheet, list, top, columns), q = put_row(sheet + 12 * p, list + p, bottom, columns), len = 12 * (p + q);
+    memset(sheet + len, 0, 12);
+    sheet[len + 2] = (uint8_t)p;
+    sheet[len + 4] = (uint8_t)(12 * p);
+    sheet[len + 5] = (uint8_t)(12 * p >> 8);
+    sheet[len + 6] = (uint8_t)q;
+    sheet[len + 8] = (uint8_t)columns;
+    sheet[len + 10] = 'C';
+    sheet[len + 11] = 'P';
+    return chains(sheet, len + 12, list, p + q, number, wanted, least, on, 0);
+}
+
+/* a list of sheet BOUND that is refused with 14 and this amount, measured, for tracks and for the chain */
 static int out_of_range(uint8_t t1, uint8_t t2, uint8_t t3, uint8_t b1, uint8_t b2, uint8_t b3, int32_t by) {
     const uint8_t list[6] = {t1, t2, t3, b1, b2, b3};
     return measures(BOUND, 84, list, 6, CAZDROB_OUT_OF_RANGE, 0, by) &&
            routes(BOUND, 84, list, 6, 3, CAZDROB_OUT_OF_RANGE, NULL, 0, 0, by) &&
-           routes(BOUND, 84, list, 6, 0, CAZDROB_OUT_OF_RANGE, NULL, 0, 0, by);
+           routes(BOUND, 84, list, 6, 0, CAZDROB_OUT_OF_RANGE, NULL, 0, 0, by) &&
+           chains(BOUND, 84, list, 6, CAZDROB_OUT_OF_RANGE, 0, 0, 0, by);
 }
 
 /* sheet A with one byte changed; every function that reads it gives the number */
@@ -167,7 +213,8 @@ static int refuses(size_t at, uint8_t byte, uint32_t number) {
     memcpy(sheet, A, sizeof A);
     sheet[at] = byte;
     return cazdrob_check(sheet, 60) == number && cazdrob_cells(sheet, 60) == 0 && measures(sheet, 60, list, 4, number, 0, 0) &&
-           routes(sheet, 60, list, 4, 2, number, NULL, 0, 0, 0) && refused(search(sheet, 60, 4, 144), number, 0);
+           routes(sheet, 60, list, 4, 2, number, NULL, 0, 0, 0) && chains(sheet, 60, list, 4, number, 0, 0, 0, 0) &&
+           refused(search(sheet, 60, 4, 144), number, 0);
 }
 
 /* whether cazdrob_beyond says, for each length from 1 to 64, 0 of the empty set, and of each column, alone and with all before it, 8 exactly
@@ -247,10 +294,19 @@ int main(void) {
     static const struct cazdrob_span of_again[3] = {{4, 1, 3, 1}, {5, 2, 4, 2}, {6, 5, 6, 1}};
     static const struct cazdrob_span of_pair[3] = {{4, 1, 3, 1}, {5, 2, 4, 2}, {6, 5, 5, 0}};
     static const struct cazdrob_span of_single[4] = {{4, 1, 3, 1}, {5, 2, 4, 2}, {6, 5, 5, 0}, {7, 6, 6, 0}};
+    static const uint8_t ahead[4] = {1, 3, 1, 2};
+    static const uint16_t steps[4] = {1, 1, 2, 3}, under[4] = {0, 2, 3, 0}, plain[4] = {4, 1, 2, 3}, leaving[4] = {4, 60001, 2, 3};
+    static const uint16_t ends[4] = {1, 1, 2, 0}, right[4] = {0, 2, 62001, 0}, straight[4] = {1, 2, 1, 3};
+    static const uint16_t three[6] = {60005, 60006, 60007, 4, 4, 4}, over_three[6] = {4, 4, 4, 62001, 62002, 62003};
+    static const uint16_t yk_top[12] = {0, 1, 4, 5, 1, 6, 7, 0, 4, 9, 10, 10}, yk_bottom[12] = {2, 3, 5, 3, 5, 2, 6, 8, 9, 8, 7, 9};
+    static const uint16_t into[4] = {1, 0, 8, 9}, from_into[4] = {8, 1, 9, 8}, out[4] = {8, 0, 8, 9}, from_out[4] = {1, 1, 9, 8};
+    static const uint16_t between[8] = {1, 8, 9, 8, 2, 5, 6, 5}, from_between[8] = {8, 9, 8, 2, 5, 6, 5, 3};
+    static const uint16_t bytes[2] = {512, 257}, swapped[2] = {257, 512}, last[2] = {65535, 65534}, last_swapped[2] = {65534, 65535};
     static const uint8_t placed[4] = {1, 3, 5, 3}, bare[10] = {3, 0, 7, 0, 0, 0, 0, 0, 0, 0};
     static const uint8_t nowhere[24] = {6, 0, 0, 0, 0, 0, 0, 0, 0, 0, 0, 0, 0, 0, 0, 0, 0, 0, 1, 0, 5, 0, 'C', 'P'};
     static const uint8_t twice_trailer[12] = {0, 0, 3, 0, 36, 0, 3, 0, 5, 0, 'C', 'P'};
     uint8_t sheet[60], turned[48], single[96], top[29], wider[13], twice[84];
+    uint16_t long_top[64], long_bottom[64];
 
     EXPECT(cazdrob_check(A, 60) == 0);
     EXPECT(cazdrob_cells(A, 60) == 144);
@@ -386,6 +442,52 @@ int main(void) {
     EXPECT(routes(single, 96, pair, 7, 4, CAZDROB_TWO_NETS, NULL, 0, 0, 0));
     EXPECT(routes(A, 60, best, 4, 1, CAZDROB_SPAN_BUFFER, NULL, 0, 0, 0));
     EXPECT(routes(A, 60, best, 4, 0, CAZDROB_SPAN_BUFFER, NULL, 0, 0, 0));
+
+    /* no net over another */
+    EXPECT(chains(EMPTY, 12, best, 0, 0, 0, 0, 0, 0));
+    EXPECT(chains(A, 60, best, 4, 0, 0, 1, 0, 0));
+    EXPECT(chains(A, 60, rival, 4, 0, 0, 1, 0, 0));
+    EXPECT(chains(LEAVING, 48, rising, 3, 0, 0, 2, 0, 0));
+    EXPECT(chains(BOUND, 84, spread, 6, 0, 0, 3, 0, 0));
+    /* net 1 over net 2; net 1 over net 3, both pins of net 2 in a column; net 1 over nets 3 and 2 */
+    EXPECT(chains(A, 60, ahead, 4, 0, 2, 2, 0, 0));
+    EXPECT(rows(straight, under, 4, 0, 2, 2, 0));
+    EXPECT(chains(BOUND, 84, bound, 6, 0, 3, 3, 0, 0));
+    /* net 60,001 over net 62,001, and net 65,535 over it, with one pin each */
+    EXPECT(chains(LEAVING, 48, together, 3, 0, 2, 3, 0, 0));
+    EXPECT(chains(LEAVING, 48, apart, 3, 0, 2, 2, 0, 0));
+    /* a chain longer than the density, as long, shorter */
+    EXPECT(rows(steps, under, 4, 0, 3, 3, 0));
+    EXPECT(rows(ends, under, 4, 0, 2, 2, 0));
+    EXPECT(rows(three, over_three, 6, 0, 3, 4, 0));
+    EXPECT(rows(yk_top, yk_bottom, 12, 0, 4, 5, 0));
+    /* with one pin, net 1 lies over none and none over net 3; nets that leave count */
+    EXPECT(rows(plain, under, 4, 0, 2, 2, 0));
+    EXPECT(rows(leaving, under, 4, 0, 3, 3, 0));
+    EXPECT(rows(ends, right, 4, 0, 3, 3, 0));
+    /* the longest chain that a sheet can have, and the longest circle */
+    for (uint16_t k = 0; k < 64; k++) long_top[k] = (uint16_t)(64001 + k), long_bottom[k] = (uint16_t)(64002 + k);
+    EXPECT(rows(long_top, long_bottom, 64, 0, 65, 65, 0));
+    long_bottom[63] = 64001;
+    EXPECT(rows(long_top, long_bottom, 64, CAZDROB_CIRCLE, 0, 0, 64001));
+    EXPECT(chains(A, 60, leftmost, 4, CAZDROB_CIRCLE, 0, 0, 1, 0));
+    EXPECT(rows(bytes, swapped, 2, CAZDROB_CIRCLE, 0, 0, 257));
+    EXPECT(rows(last, last_swapped, 2, CAZDROB_CIRCLE, 0, 0, 65534));
+    /* lower nets that only lead into a circle, out of one, from one to another */
+    EXPECT(rows(into, from_into, 4, CAZDROB_CIRCLE, 0, 0, 8));
+    EXPECT(rows(out, from_out, 4, CAZDROB_CIRCLE, 0, 0, 8));
+    EXPECT(rows(between, from_between, 8, CAZDROB_CIRCLE, 0, 0, 5));
+    EXPECT(chains(A, 11, leftmost, 4, CAZDROB_SHORT, 0, 0, 0, 0));
+    EXPECT(chains(A, 60, leftmost, 3, CAZDROB_LIST_LENGTH, 0, 0, 0, 0));
+    EXPECT(chains(A, 60, leftmost, 0, CAZDROB_LIST_LENGTH, 0, 0, 0, 0));
+    EXPECT(chains(A, 60, zero, 4, CAZDROB_NOT_ALLOWED, 0, 0, 0, 0));
+    EXPECT(chains(A, 60, above, 4, CAZDROB_NOT_ALLOWED, 0, 0, 0, 0));
+    EXPECT(chains(A, 60, shared, 4, CAZDROB_OUT_OF_RANGE, 0, 0, 0, -1));
+    /* nets 1 and 3 in a circle too, and on A with column 1 not in the set of T 1 */
+    EXPECT(out_of_range(1, 3, 5, 1, 4, 5, 1));
+    memcpy(sheet, A, sizeof A);
+    sheet[4] = 6;
+    EXPECT(chains(sheet, 60, leftmost, 4, CAZDROB_NOT_ALLOWED, 0, 0, 0, 0));
 
     EXPECT(makes(5, TOP, 29, BOTTOM, 13, 60, 0, MADE, 60));
     EXPECT(makes(5, TOP, 29, BOTTOM, 13, CAZDROB_SHEET_MAX, 0, MADE, 60));

@@ -1,5 +1,5 @@
--- Demands 1 and 2 of the C functions: what a call of `cazdrob_search`, `cazdrob_measure`, `cazdrob_tracks` or `cazdrob_modules` returned
--- and left, and what a call of `cazdrob_beyond` or `cazdrob_distance` says.
+-- Demands 1 and 2 of the C functions: what a call of `cazdrob_search`, `cazdrob_measure`, `cazdrob_tracks`, `cazdrob_chain` or
+-- `cazdrob_modules` returned and left, and what a call of `cazdrob_beyond` or `cazdrob_distance` says.
 -- Assumes nothing.
 use Rattle.std.proofs.Common.{◌≡◌, ◌∙◌, ℕ, ◌^◌, Bool, true, false, List, length, ℤ, sym, refl, true≢false, leb-false, arith}
 use Rattle.refusals.specs.Refusals.{refuse}
@@ -16,9 +16,11 @@ use Rattle.measure.proofs.Returned.{one_measurement}
 use Rattle.left_edge.specs.declared.Span.{Span}
 use Rattle.tracks.specs.Returned as tracks
 use Rattle.tracks.proofs.Returned.{one_routing}
+use Rattle.chains.specs.Returned as chains
+use Rattle.chains.proofs.Returned.{one_chain}
 use Rattle.module_sheet.specs.Returned as modules
 use Rattle.module_sheet.proofs.Returned.{one_making}
-use Rattle.cazdrob.specs.Host.{check_number, beyond_number, SaysBeyond, HostMeasures, HostSearches, HostTracks, HostMakes}
+use Rattle.cazdrob.specs.Host.{check_number, beyond_number, SaysBeyond, HostMeasures, HostSearches, HostTracks, HostChains, HostMakes}
 
 module _ {bytes buffer work buffer' work' : List ℕ} {density' r : ℕ} (host : HostSearches bytes buffer work buffer' work' density' r) where
   -- it kept the promise of the library's search
@@ -58,6 +60,11 @@ pub host_tracks :
 host_tracks host =
     let numbers = host.numbers in
     rw (numbers.number, numbers.nets, numbers.tracks, numbers.amount) (one_routing _ _ _ _ _ refl host.spans)
+
+pub host_chain :
+    {bytes columns : List ℕ} {chain' bound' net' : ℕ} {amount' : ℤ} {r : ℕ} → HostChains bytes columns chain' bound' net' amount' r
+    → chains.Returned bytes columns r chain' bound' net' amount'
+host_chain host = rw (host.number, host.chain, host.bound, host.net, host.amount) (one_chain _ _ _ refl)
 
 pub host_modules :
     {l : ℕ} {top bottom sheet sheet' : List ℕ} {written' r : ℕ} → HostMakes l top bottom sheet sheet' written' r

@@ -14,6 +14,8 @@ use Rattle.tracked.specs.declared.Counts.{Counts}
 use Rattle.tracked.specs.declared.TrackRefusal.{TrackRefusal}
 use Rattle.tracked.specs.Numbers as tracked
 use Rattle.tracks.specs.Answer.{tracked_of, spans_after}
+use Rattle.chained.specs.Numbers as chained
+use Rattle.chains.specs.Answer.{chained_of}
 use Rattle.made.specs.Numbers as made
 use Rattle.refusals.specs.declared.Refusal.{Refusal}
 use Rattle.refusals.specs.declared.Refusal.TheVariants.{Beyond}
@@ -56,6 +58,14 @@ pub record HostNumbers (answer : Result Counts TrackRefusal) (nets' tracks' : �
 pub record HostTracks (bytes columns : List ℕ) (array array' : List Span) (nets' tracks' : ℕ) (amount' : ℤ) (r : ℕ) : Type 0 where
   pub numbers : HostNumbers (tracked_of bytes columns (length array)) nets' tracks' amount' r
   pub spans : array' ≡ spans_after bytes columns array
+
+-- the promise about chains: its number, and the numbers it leaves
+pub record HostChains (bytes columns : List ℕ) (chain' bound' net' : ℕ) (amount' : ℤ) (r : ℕ) : Type 0 where
+  pub number : r ≡ chained.number_of (chained_of bytes columns)
+  pub chain : chain' ≡ chained.nets_of (chained_of bytes columns)
+  pub bound : bound' ≡ chained.bound_of (chained_of bytes columns)
+  pub net : net' ≡ chained.net_of (chained_of bytes columns)
+  pub amount : amount' ≡ chained.amount_of (chained_of bytes columns)
 
 -- the promise about two sides of modules: its number, the length it leaves, the sheet buffer at exit, and that the sheet reads back
 pub record HostMakes (l : ℕ) (top bottom sheet sheet' : List ℕ) (written' r : ℕ) : Type 0 where

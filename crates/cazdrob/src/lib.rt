@@ -6,8 +6,9 @@ ghost use Rattle.std.specs.Prelude.{◌≡◌};
 ghost use Rattle.channel.specs.Distance.{amount};
 ghost use Rattle.soundness.specs.Check.{check_of};
 ghost use Rattle.sheet.specs.Parts.{shape_of};
-ghost use Rattle.cazdrob.specs.Host.{check_number, beyond_number, HostMeasures, HostSearches, HostNumbers, HostTracks, HostMakes};
+ghost use Rattle.cazdrob.specs.Host.{check_number, beyond_number, HostMeasures, HostSearches, HostNumbers, HostTracks, HostChains, HostMakes};
 
+use chained::net_of;
 use left_edge::Span;
 use refusals::{Checked, Refusal, amount_of, number_of};
 use tracked::{Tracked, counts_in};
@@ -93,6 +94,28 @@ fn put_answer(answer: Tracked, nets: &mut usize, tracks: &mut u32, amount: &mut 
     let counts = answer.unwrap_or_default();
     *nets = counts.nets;
     *tracks = u32::from(counts.tracks);
+    *amount = i32::from(amount_of(answer));
+    u32::from(number_of(answer))
+}
+
+// The longest chain of an assignment's vertical constraints: 0 with how many nets it has and the greater of that and the density, or the
+// number of a refusal with chain 0 and bound 0. With 19 comes the lowest net on a circle, with 14 the amount, with every other answer 0.
+pub fn cazdrob_chain(
+    s: &[u8],
+    columns: &[u8],
+    chain: &mut u32,
+    bound: &mut u32,
+    net: &mut u32,
+    amount: &mut i32,
+) -> u32
+    ensures { HostChains s.now columns.now chain.new bound.new
+        net.new amount.new result }
+{
+    let answer = chains::chain(s, columns);
+    let longest = answer.unwrap_or_default();
+    *chain = longest.nets;
+    *bound = longest.bound;
+    *net = u32::from(net_of(answer));
     *amount = i32::from(amount_of(answer));
     u32::from(number_of(answer))
 }

@@ -7,7 +7,7 @@ ghost use Rattle.std.specs.Prelude.{◌≡◌};
 ghost use Rattle.channel.specs.Distance.{amount};
 ghost use Rattle.soundness.specs.Check.{check_of};
 ghost use Rattle.sheet.specs.Parts.{shape_of};
-ghost use Rattle.cazdrob.specs.Host.{check_number, beyond_number, HostMeasures, HostSearches, HostTracks, HostMakes};
+ghost use Rattle.cazdrob.specs.Host.{check_number, beyond_number, HostMeasures, HostSearches, HostTracks, HostChains, HostMakes};
 
 use left_edge::Span;
 
@@ -77,6 +77,21 @@ pub extern "C" fn cazdrob_tracks(
         nets.new tracks.new amount.new result }
 {
     cazdrob::cazdrob_tracks(s, columns, spans, nets, tracks, amount)
+}
+
+#[unsafe(no_mangle)]
+pub extern "C" fn cazdrob_chain(
+    s: &[u8],
+    columns: &[u8],
+    chain: &mut u32,
+    bound: &mut u32,
+    net: &mut u32,
+    amount: &mut i32,
+) -> u32
+    ensures { HostChains s.now columns.now chain.new bound.new
+        net.new amount.new result }
+{
+    cazdrob::cazdrob_chain(s, columns, chain, bound, net, amount)
 }
 
 #[unsafe(no_mangle)]

@@ -2,8 +2,8 @@
 //!
 //! A sheet describes the channel: its terminals in their fixed orders, the columns that each may take, the distances that neighbours
 //! keep. `docs/FORMAT.md` of the repository has the rules. [`sheet_of_modules`] makes one of standard cells and others that move whole;
-//! [`route`] gives the nets of an assignment their tracks where no column has pins of two. Every call has an answer for every content and
-//! length of what it is lent.
+//! [`route`] gives the nets of an assignment their tracks where no column has pins of two; [`chain`] gives the longest chain of vertical
+//! constraints of an assignment. Every call has an answer for every content and length of what it is lent.
 //!
 //! Sheet A: three columns, the nets 1, 2 on top and 2, 1 at the bottom.
 //!
@@ -75,6 +75,16 @@ mod sys {
             tracks: *mut u32,
             amount: *mut i32,
         ) -> u32;
+        pub fn cazdrob_chain(
+            sheet: *const u8,
+            sheet_len: usize,
+            columns: *const u8,
+            columns_len: usize,
+            chain: *mut u32,
+            bound: *mut u32,
+            net: *mut u32,
+            amount: *mut i32,
+        ) -> u32;
         pub fn cazdrob_modules(
             length: usize,
             top: *const u8,
@@ -94,7 +104,7 @@ mod sys {
 /// Whether the sheet is sound: `Ok`, or one of the refusals 1 to 8.
 pub fn check(sheet: &[u8]) -> Result<(), Refusal> {
     // SAFETY: the pointer and the length are a slice's.
-    answer(unsafe { sys::cazdrob_check(sheet.as_ptr(), sheet.len()) }, 0)
+    answer(unsafe { sys::cazdrob_check(sheet.as_ptr(), sheet.len()) }, 0, 0)
 }
 
 /// Whether a set names a column above the last of so many: the test behind 8 of [`check`].
@@ -134,7 +144,7 @@ pub fn measure(sheet: &[u8], columns: &[u8]) -> Result<u32, Refusal> {
     let (mut density, mut amount) = (0, 0);
     // SAFETY: the pointers and lengths are those of slices; `density` and `amount` are borrowed by nothing else.
     let number = unsafe { sys::cazdrob_measure(sheet.as_ptr(), sheet.len(), columns.as_ptr(), columns.len(), &mut density, &mut amount) };
-    answer(number, amount).map(|()| density)
+    answer(number, amount, 0).map(|()| density)
 }
 
 /// Finds the best assignment on lent buffers and gives its density. Refused with 1 to 11.
@@ -148,7 +158,7 @@ pub fn search(sheet: &[u8], columns: &mut [u8], work: &mut [u16]) -> Result<u32,
     let number = unsafe {
         sys::cazdrob_search(sheet.as_ptr(), sheet.len(), columns.as_mut_ptr(), columns.len(), work.as_mut_ptr(), work.len(), &mut density)
     };
-    answer(number, 0).map(|()| density)
+    answer(number, 0, 0).map(|()| density)
 }
 
 /// An assignment and its density.
@@ -278,12 +288,52 @@ pub fn tracks(sheet: &[u8], columns: &[u8], spans: &mut [Span]) -> Result<Tracks
             &mut amount,
         )
     };
-    match answer(number, amount) {
+    match answer(number, amount, 0) {
         Ok(()) => Ok(Tracks { nets, tracks }),
         // the list is only read here
         Err(Refusal::Columns) => Err(Refusal::SpanBuffer),
         Err(refusal) => Err(refusal),
     }
+}
+
+/// The longest chain of vertical constraints of an assignment, and the greater of it and the density.
+#[derive(Debug, Clone, Copy, Default, PartialEq, Eq)]
+pub struct Chain {
+    /// How many nets the longest chain has; 0 where none lies over another.
+    pub nets: u32,
+    /// The greater of `nets` and the density: a wiring in two layers that gives each net one track takes at least so many tracks.
+    pub bound: u32,
+}
+
+/// The longest chain of vertical constraints of an assignment. The column list is as in [`measure`]. Refused with 1 to 8, 12, 13, 14 or 19,
+/// and of several with the first in this order.
+///
+/// A net lies over another one where a column has a pin of the first on top and a pin of the second at the bottom, and neither is a plain
+/// net with one pin on the sheet. A chain is a list of nets in which each lies over the next, a circle a chain of two nets or more whose
+/// last net lies over its first. The refusal [`Circle`](Refusal::Circle) has the lowest net that is on a circle.
+///
+/// ```
+/// use cazdrob::{Chain, Module, Pin, Refusal};
+///
+/// // four columns, nets 1, 1, 2, 3 over 2, 3 in columns 2 and 3: net 1 lies over 2, and 2 over 3, and no more than two nets cross a column
+/// let pin = |column: u8, net| Module { width: 1, edges: 1 << (column - 1), pins: vec![Pin { offset: 1, net }] };
+/// let top = [pin(1, 1), pin(2, 1), pin(3, 2), pin(4, 3)];
+/// let sheet = cazdrob::sheet_of_modules(4, &top, &[pin(2, 2), pin(3, 3)])?;
+/// assert_eq!(cazdrob::measure(&sheet, &[1, 2, 3, 4, 2, 3]), Ok(2));
+/// assert_eq!(cazdrob::chain(&sheet, &[1, 2, 3, 4, 2, 3]), Ok(Chain { nets: 3, bound: 3 }));
+///
+/// // nets 1, 2 over 2, 1: each lies over the other
+/// let sheet = cazdrob::sheet_of_modules(2, &[pin(1, 1), pin(2, 2)], &[pin(1, 2), pin(2, 1)])?;
+/// assert_eq!(cazdrob::chain(&sheet, &[1, 2, 1, 2]), Err(Refusal::Circle { net: 1 }));
+/// # Ok::<(), Refusal>(())
+/// ```
+pub fn chain(sheet: &[u8], columns: &[u8]) -> Result<Chain, Refusal> {
+    let (mut nets, mut bound, mut net, mut amount) = (0, 0, 0, 0);
+    // SAFETY: the pointers and lengths are those of slices; `nets`, `bound`, `net` and `amount` are borrowed by nothing else.
+    let number = unsafe {
+        sys::cazdrob_chain(sheet.as_ptr(), sheet.len(), columns.as_ptr(), columns.len(), &mut nets, &mut bound, &mut net, &mut amount)
+    };
+    answer(number, amount, net).map(|()| Chain { nets, bound })
 }
 
 /// Enough bytes for every sound sheet.
@@ -365,7 +415,7 @@ pub fn modules(length: usize, top: &[u8], bottom: &[u8], sheet: &mut [u8]) -> Re
     let number = unsafe {
         sys::cazdrob_modules(length, top.as_ptr(), top.len(), bottom.as_ptr(), bottom.len(), sheet.as_mut_ptr(), sheet.len(), &mut written)
     };
-    match answer(number, 0) {
+    match answer(number, 0, 0) {
         Ok(()) => Ok(written),
         // there is no column buffer here
         Err(Refusal::Columns) => Err(Refusal::SheetBuffer),
@@ -419,10 +469,15 @@ pub enum Refusal {
     SpanBuffer,
     /// 18: a column has pins of two nets.
     TwoNets,
+    /// 19: the vertical constraints have a circle.
+    Circle {
+        /// The lowest net that is on one.
+        net: u16,
+    },
 }
 
 impl Refusal {
-    /// The number of the refusal, 1 to 14 or 16 to 18.
+    /// The number of the refusal, 1 to 14 or 16 to 19.
     pub fn number(self) -> u32 {
         match self {
             Refusal::Short => 1,
@@ -444,6 +499,7 @@ impl Refusal {
             Refusal::Edge => 17,
             Refusal::SpanBuffer => 9,
             Refusal::TwoNets => 18,
+            Refusal::Circle { .. } => 19,
         }
     }
 }
@@ -470,23 +526,27 @@ impl fmt::Display for Refusal {
             Refusal::Edge => "a set names a left edge from which its module does not fit the channel",
             Refusal::SpanBuffer => "there are fewer records than nets",
             Refusal::TwoNets => "a column has pins of two nets",
+            Refusal::Circle { .. } => "the vertical constraints have a circle",
         };
         write!(f, "refused {}: {why}", self.number())?;
-        if let Refusal::OutOfRange { amount } = self {
-            let count = amount.unsigned_abs();
-            let columns = if count == 1 { "column" } else { "columns" };
-            let wrong = if *amount < 0 { "too close" } else { "too far apart" };
-            write!(f, ", {count} {columns} {wrong}")?;
+        match self {
+            Refusal::OutOfRange { amount } => {
+                let count = amount.unsigned_abs();
+                let columns = if count == 1 { "column" } else { "columns" };
+                let wrong = if *amount < 0 { "too close" } else { "too far apart" };
+                write!(f, ", {count} {columns} {wrong}")
+            }
+            Refusal::Circle { net } => write!(f, ", with net {net} on it"),
+            _ => Ok(()),
         }
-        Ok(())
     }
 }
 
 impl Error for Refusal {}
 
-/// A returned number as a result, with the amount that came beside it: 0 from a call that has none, as none of those returns 14. 9 is a
-/// search's.
-fn answer(number: u32, amount: i32) -> Result<(), Refusal> {
+/// A returned number as a result, with the amount and the net that came beside it: 0 from a call that has none, as none of those returns 14
+/// or 19. 9 is a search's.
+fn answer(number: u32, amount: i32, net: u32) -> Result<(), Refusal> {
     Err(match number {
         0 => return Ok(()),
         1 => Refusal::Short,
@@ -506,7 +566,9 @@ fn answer(number: u32, amount: i32) -> Result<(), Refusal> {
         16 => Refusal::Module,
         17 => Refusal::Edge,
         18 => Refusal::TwoNets,
-        _ => unreachable!("the library returns 0 to 14 or 16 to 18, not {number}"),
+        // a net of the sheet, which has two bytes
+        19 => Refusal::Circle { net: net as u16 },
+        _ => unreachable!("the library returns 0 to 14 or 16 to 19, not {number}"),
     })
 }
 

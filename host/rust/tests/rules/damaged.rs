@@ -19,6 +19,7 @@ fn every_call(draw: &mut Draw, sheet: Vec<u8>, seen: &mut Seen) {
     held.measure(draw, &list, seen);
     let room = held.room(draw);
     held.tracks(draw, &list, room, seen).ok();
+    held.chain(draw, &list, seen);
 }
 
 fn put(sheet: &mut [u8], at: usize, field: usize) {
@@ -101,7 +102,8 @@ fn one_fault_or_several() {
     seen.print("one fault or several");
     for number in 1..=8 {
         assert!(seen.check[number] > 5_000, "{number}");
-        assert!(seen.search[number] > 5_000 && seen.measure[number] > 5_000 && seen.tracks[number] > 5_000, "{number}");
+        assert!(seen.search[number] > 5_000 && seen.measure[number] > 5_000, "{number}");
+        assert!(seen.tracks[number] > 5_000 && seen.chain[number] > 5_000, "{number}");
     }
     assert!(seen.check[0] > 10_000);
 }

@@ -164,8 +164,13 @@ pub fn clean(draw: &mut Draw, length: usize) -> (Channel, Vec<u8>) {
             }
         }
     }
-    let list = [&top[..], &bottom].concat().into_iter().map(|(_, column)| column as u8).collect();
-    let [top, bottom] = [top, bottom].map(|pins| {
+    around(draw, sets, ranges, length, [top, bottom])
+}
+
+/// A drawn sound channel around the pins of its two sides, each a net and its column, and the list of these columns.
+fn around(draw: &mut Draw, sets: Sets, ranges: Ranges, length: usize, sides: [Vec<(u16, usize)>; 2]) -> (Channel, Vec<u8>) {
+    let list = sides.concat().into_iter().map(|(_, column)| column as u8).collect();
+    let [top, bottom] = sides.map(|pins| {
         let mut before = None;
         let terminal = |(net, column): (u16, usize)| {
             let (least, greatest) = before.map_or((0, 0), |before| range(draw, ranges, Some(column - before)));
@@ -175,6 +180,98 @@ pub fn clean(draw: &mut Draw, length: usize) -> (Channel, Vec<u8>) {
         pins.into_iter().map(terminal).collect()
     });
     (Channel { length, top, bottom }, list)
+}
+
+/// A drawn sound channel of this length around an assignment in which nets lie over others, and that assignment: chains that branch and
+/// join, and circles, with nets that lead into them, out of them and from one to another.
+pub fn constrained(draw: &mut Draw, length: usize) -> (Channel, Vec<u8>) {
+    let (sets, ranges, kinds) = (draw.of(&Sets::ANY), draw.of(&Ranges::ANY), nets(draw));
+    // of eight columns so many are empty
+    let empty = draw.of(&[0, 0, 0, 1, 2, 4, 7]);
+    let columns: Vec<usize> = (1..=length).filter(|_| draw.between(1, 8) > empty).collect();
+    // nodes stand for nets; so many columns have a pin of one over a pin of another
+    let most = columns.len();
+    let both = draw.of(&[most, most, most - most / 4, most / 2, most / 4]);
+    let (pairs, nodes) = over(draw, both);
+    let mut pins: Vec<Pins> = pairs.into_iter().map(|(above, below)| (Some(above), Some(below))).collect();
+    match draw.between(0, 3) {
+        0 => {}
+        1 => pins.reverse(),
+        _ => shuffle(draw, &mut pins),
+    }
+    // the others have one pin, or two of one net, mostly of a node that is there
+    let mut all = nodes;
+    while pins.len() < most {
+        let node = if nodes > 0 && !draw.once_in(4) { draw.between(0, nodes - 1) } else { all };
+        all = all.max(node + 1);
+        let other = draw.of(&[(Some(node), None), (None, Some(node)), (Some(node), Some(node))]);
+        pins.insert(draw.between(0, pins.len()), other);
+    }
+    let mut numbers: Vec<u16> = Vec::new();
+    while numbers.len() < all {
+        let net = net(draw, kinds);
+        if !numbers.contains(&net) {
+            numbers.push(net);
+        }
+    }
+    let side = |pin: fn(&Pins) -> Option<usize>| {
+        columns.iter().zip(&pins).filter_map(|(column, pins)| Some((numbers[pin(pins)?], *column))).collect()
+    };
+    let sides = [side(|pins| pins.0), side(|pins| pins.1)];
+    around(draw, sets, ranges, length, sides)
+}
+
+/// The node of a column's top pin and that of its bottom pin.
+type Pins = (Option<usize>, Option<usize>);
+
+/// So many pairs of nodes, the first over the second, and how many nodes there are. They are paths of new nodes, which begin and end at a
+/// new node or an old one, or end where they began; some pairs have one node twice.
+fn over(draw: &mut Draw, count: usize) -> (Vec<(usize, usize)>, usize) {
+    // each pair has two nodes of its own, or the lower node is always on top, so that there is no circle
+    let kind = draw.between(0, 11);
+    let (apart, rising) = (kind == 0, kind <= 4);
+    let old_in = draw.of(&[2, 2, 4, 8]);
+    let (mut pairs, mut nodes) = (vec![], 0);
+    while pairs.len() < count {
+        let mut node = |draw: &mut Draw, old: bool| {
+            if old && !apart && nodes > 0 {
+                return draw.between(0, nodes - 1);
+            }
+            nodes += 1;
+            nodes - 1
+        };
+        let old = draw.once_in(old_in);
+        let first = node(draw, old);
+        let most = count - pairs.len();
+        let few = draw.of(&[1, 2, 4, 16]).min(most);
+        let steps = if apart {
+            1
+        } else if draw.once_in(if pairs.is_empty() { 3 } else { 6 }) {
+            most
+        } else {
+            draw.between(1, few)
+        };
+        let mut last = first;
+        for step in 1..=steps {
+            let next = if step < steps {
+                node(draw, false)
+            } else if draw.once_in(3) && !apart {
+                first
+            } else {
+                let old = draw.once_in(old_in);
+                node(draw, old)
+            };
+            pairs.push(if rising { (last.min(next), last.max(next)) } else { (last, next) });
+            last = next;
+        }
+    }
+    (pairs, nodes)
+}
+
+fn shuffle<T>(draw: &mut Draw, items: &mut [T]) {
+    for k in (1..items.len()).rev() {
+        items.swap(k, draw.between(0, k));
+    }
 }
 
 /// A drawn channel with at most this length and these counts, some of them at the limits.

@@ -1,8 +1,8 @@
 //! Calls of the C functions on buffers out of the middle of longer ones full of garbage, each held to what the reference says, to the
 //! last byte and cell of the longer buffers.
 use crate::draw::Draw;
-use crate::reference::{read, Channel, Record, Refused};
-use cazdrob::{Refusal, Routing, Searcher, Span, Tracks};
+use crate::reference::{read, Chained, Channel, Record, Refused};
+use cazdrob::{Chain, Refusal, Routing, Searcher, Span, Tracks};
 
 extern "C" {
     fn cazdrob_check(sheet: *const u8, sheet_len: usize) -> u32;
@@ -33,6 +33,16 @@ extern "C" {
         spans_len: usize,
         nets: *mut usize,
         tracks: *mut u32,
+        amount: *mut i32,
+    ) -> u32;
+    fn cazdrob_chain(
+        sheet: *const u8,
+        sheet_len: usize,
+        columns: *const u8,
+        columns_len: usize,
+        chain: *mut u32,
+        bound: *mut u32,
+        net: *mut u32,
         amount: *mut i32,
     ) -> u32;
 }
@@ -79,14 +89,16 @@ pub struct Seen {
     pub measure: [u32; 15],
     pub search: [u32; 15],
     pub tracks: [u32; 19],
+    pub chain: [u32; 20],
     pub bad: Bad,
 }
 
 impl Seen {
     pub fn print(&self, test: &str) {
         println!("{test}: times that each number was returned, from 0 on");
-        let calls = [("check", &self.check[..]), ("measure", &self.measure), ("search", &self.search), ("tracks", &self.tracks)];
-        for (call, times) in calls.into_iter().filter(|(_, times)| times.iter().any(|times| *times > 0)) {
+        let of_lists = [("measure", &self.measure[..]), ("tracks", &self.tracks), ("chain", &self.chain)];
+        let calls = [("check", &self.check[..]), ("search", &self.search)].into_iter().chain(of_lists);
+        for (call, times) in calls.filter(|(_, times)| times.iter().any(|times| *times > 0)) {
             println!("  {call:<7} {times:?}");
         }
         if self.measure[14] > 0 {
@@ -129,7 +141,7 @@ pub fn span([net, left, right, track]: Record) -> Span {
     Span { net, left, right, track }
 }
 
-/// What the wrapper says of a refused measurement, or of tracks that are refused, as the reference says it.
+/// What the wrapper says of a refused measurement, of tracks that are refused, or of a chain but for 19, as the reference says it.
 pub fn refused(refusal: Refusal) -> Refused {
     let amount = if let Refusal::OutOfRange { amount } = refusal { amount } else { 0 };
     Refused { number: refusal.number(), amount }
@@ -285,6 +297,42 @@ impl Held {
         let routed = routed.map(|r| Routing { tracks: tracks_of(&r), spans: r.into_iter().map(span).collect() });
         assert_eq!(cazdrob::route(sheet.lend(), columns.lend()).map_err(refused), routed);
         seen.tracks[number as usize] += 1;
+        wanted
+    }
+
+    /// Holds the chain of a list, and gives the answer.
+    pub fn chain(&self, draw: &mut Draw, list: &[u8], seen: &mut Seen) -> Chained {
+        let wanted = match &self.read {
+            Ok(channel) => channel.chain(list),
+            Err(number) => Refused::from(*number).into(),
+        };
+        let mut sheet = Lent::around(draw, &self.sheet, |w| w as u8);
+        let mut columns = Lent::around(draw, list, |w| w as u8);
+        let [mut chain, mut bound, mut net] = [(); 3].map(|()| Lent::garbage(draw, 1, |w| w as u32));
+        let mut amount = Lent::garbage(draw, 1, |w| w as i32);
+        let before = (sheet.clone(), columns.clone(), chain.clone(), bound.clone(), net.clone(), amount.clone());
+        let number = {
+            let (sheet, columns) = (sheet.lend(), columns.lend());
+            let [chain, bound, net] = [&mut chain, &mut bound, &mut net].map(|number| number.lend().as_mut_ptr());
+            let amount = amount.lend().as_mut_ptr();
+            unsafe { cazdrob_chain(sheet.as_ptr(), sheet.len(), columns.as_ptr(), columns.len(), chain, bound, net, amount) }
+        };
+        let got = Chained { number, chain: chain.lend()[0], bound: bound.lend()[0], net: net.lend()[0], amount: amount.lend()[0] };
+        assert_eq!(got, wanted, "chain of {list:?} on {:?}", self.sheet);
+        sheet.hold(&before.0, [].into_iter(), "the sheet");
+        columns.hold(&before.1, [].into_iter(), "the list");
+        chain.hold(&before.2, [wanted.chain].into_iter(), "the chain");
+        bound.hold(&before.3, [wanted.bound].into_iter(), "the bound");
+        net.hold(&before.4, [wanted.net].into_iter(), "the net");
+        amount.hold(&before.5, [wanted.amount].into_iter(), "the amount");
+
+        let wrapped = match cazdrob::chain(sheet.lend(), columns.lend()) {
+            Ok(Chain { nets, bound }) => Chained { chain: nets, bound, ..Chained::default() },
+            Err(Refusal::Circle { net }) => Chained { number: 19, net: net.into(), ..Chained::default() },
+            Err(other) => refused(other).into(),
+        };
+        assert_eq!(wrapped, wanted, "the wrapper's chain of {list:?} on {:?}", self.sheet);
+        seen.chain[number as usize] += 1;
         wanted
     }
 

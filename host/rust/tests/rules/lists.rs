@@ -1,4 +1,4 @@
-//! Column lists, measured and with their tracks: assignments, lists that are nearly one, any bytes, wrong lengths.
+//! Column lists, measured, with their tracks and with their chains: assignments, lists that are nearly one, any bytes, wrong lengths.
 use crate::draw::{channel_up_to, sheet_of, Draw};
 use crate::lent::{Bad, Held, Seen};
 use crate::reference::Channel;
@@ -10,11 +10,12 @@ fn allowed(draw: &mut Draw, channel: &Channel, at: usize) -> Option<u8> {
     (!columns.is_empty()).then(|| draw.of(&columns))
 }
 
-/// Holds the measurement of a list and its tracks.
+/// Holds the measurement of a list, its tracks and its chain.
 fn hold(draw: &mut Draw, held: &Held, list: &[u8], seen: &mut Seen) {
     held.measure(draw, list, seen);
     let room = held.room(draw);
     held.tracks(draw, list, room, seen).ok();
+    held.chain(draw, list, seen);
 }
 
 fn measured(test: &str, seed: u64, sheets: usize, lists: usize, length: usize, p: usize, q: usize) -> Seen {

@@ -3,6 +3,7 @@
 //! draws are fixed by their seeds.
 mod beyond;
 mod buffers;
+mod chain;
 mod damaged;
 mod distances;
 mod draw;

@@ -1,5 +1,7 @@
-//! The rules in plain Rust: reading and refusing a sheet, the density of a column list, its tracks, the best assignment. The dynamic
-//! programme is that of "Optimal channel pin assignment", section 5.1, with densities by definition. Nothing is shared with the library.
+//! The rules in plain Rust: reading and refusing a sheet, the density of a column list, its tracks, its longest chain of vertical
+//! constraints, the best assignment. The dynamic programme is that of "Optimal channel pin assignment", section 5.1, with densities by
+//! definition. Nothing is shared with the library.
+use std::collections::BTreeMap;
 
 #[derive(Debug, Clone, PartialEq, Eq)]
 pub struct Terminal {
@@ -32,6 +34,87 @@ impl From<u32> for Refused {
     fn from(number: u32) -> Self {
         Refused { number, amount: 0 }
     }
+}
+
+/// What a call for the chain returns and leaves.
+#[derive(Debug, Clone, Copy, Default, PartialEq, Eq)]
+pub struct Chained {
+    pub number: u32,
+    /// How many nets the longest chain has.
+    pub chain: u32,
+    pub bound: u32,
+    /// With 19, the lowest net on a circle; else 0.
+    pub net: u32,
+    /// With 14, as of a measurement; else 0.
+    pub amount: i32,
+}
+
+impl From<Refused> for Chained {
+    fn from(Refused { number, amount }: Refused) -> Self {
+        Chained { number, amount, ..Chained::default() }
+    }
+}
+
+/// One net over another.
+pub type Over = (u16, u16);
+
+/// The nets that are reached from this one by going from a net to one that it lies over.
+pub fn reached(over: &[Over], from: u16) -> Vec<u16> {
+    let mut found = Vec::new();
+    let mut waiting = vec![from];
+    while let Some(net) = waiting.pop() {
+        for (_, below) in over.iter().filter(|(above, _)| *above == net) {
+            if !found.contains(below) {
+                found.push(*below);
+                waiting.push(*below);
+            }
+        }
+    }
+    found
+}
+
+/// The nets on a circle, in rising order.
+pub fn on_circles(over: &[Over]) -> Vec<u16> {
+    let mut nets: Vec<u16> = over.iter().map(|(above, _)| *above).filter(|net| reached(over, *net).contains(net)).collect();
+    nets.sort_unstable();
+    nets.dedup();
+    nets
+}
+
+/// How many nets the longest chain has that begins with these and has no net twice, by trying them all.
+fn longest_of_all(over: &[Over], chain: &mut Vec<u16>) -> u32 {
+    let (mut longest, last) = (chain.len() as u32, chain.last().copied());
+    for (above, below) in over {
+        if last == Some(*above) && !chain.contains(below) {
+            chain.push(*below);
+            longest = longest.max(longest_of_all(over, chain));
+            chain.pop();
+        }
+    }
+    longest
+}
+
+/// How many nets the longest chain from this net on has, where there is no circle; what was found of the nets below it is kept.
+pub fn longest_from(over: &[Over], net: u16, kept: &mut BTreeMap<u16, u32>) -> u32 {
+    if let Some(longest) = kept.get(&net) {
+        return *longest;
+    }
+    let below: Vec<u16> = over.iter().filter(|(above, _)| *above == net).map(|(_, below)| *below).collect();
+    let longest = 1 + below.into_iter().map(|net| longest_from(over, net, kept)).max().unwrap_or(0);
+    kept.insert(net, longest);
+    longest
+}
+
+/// How many nets the longest chain of two or more has, else 0, where there is no circle. Where the constraints are few, all chains are
+/// tried too.
+pub fn longest_chain(over: &[Over]) -> u32 {
+    let mut kept = BTreeMap::new();
+    let longest = over.iter().map(|(above, _)| longest_from(over, *above, &mut kept)).max().unwrap_or(0);
+    if over.len() <= 24 {
+        let all = over.iter().map(|(above, _)| longest_of_all(over, &mut vec![*above])).max().unwrap_or(0);
+        assert_eq!(longest, all, "{over:?}");
+    }
+    longest
 }
 
 fn u16_at(bytes: &[u8], at: usize) -> usize {
@@ -200,6 +283,41 @@ impl Channel {
             records.push([net, left, right, track]);
         }
         Ok(records)
+    }
+
+    /// Whether vertical constraints are of this net: it leaves, or has two pins on the sheet at the least.
+    pub fn constrains(&self, net: u16) -> bool {
+        leaves(net) != (false, false) || self.top.iter().chain(&self.bottom).filter(|t| t.net == net).count() > 1
+    }
+
+    /// The top net and the bottom net of each column that has two pins, by top place.
+    pub fn pairs(&self, list: &[u8]) -> Vec<Over> {
+        let (top, bottom) = list.split_at(self.top.len());
+        let under = |column: u8| self.bottom.iter().zip(bottom).filter(move |(_, at)| **at == column).map(|(b, _)| b.net);
+        self.top.iter().zip(top).flat_map(|(t, column)| under(*column).map(|net| (t.net, net))).collect()
+    }
+
+    /// Which net lies over which: the vertical constraints of an assignment, each once.
+    pub fn over(&self, list: &[u8]) -> Vec<Over> {
+        let mut over = self.pairs(list);
+        over.retain(|(above, below)| above != below && self.constrains(*above) && self.constrains(*below));
+        over.sort_unstable();
+        over.dedup();
+        over
+    }
+
+    /// What a call for the chain of a list returns and leaves.
+    pub fn chain(&self, list: &[u8]) -> Chained {
+        let density = match self.measure(list) {
+            Ok(density) => density,
+            Err(refused) => return refused.into(),
+        };
+        let over = self.over(list);
+        if let Some(net) = on_circles(&over).first() {
+            return Chained { number: 19, net: (*net).into(), ..Chained::default() };
+        }
+        let chain = longest_chain(&over);
+        Chained { chain, bound: chain.max(density), ..Chained::default() }
     }
 
     /// The left and the right end of a net.

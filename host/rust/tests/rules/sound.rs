@@ -19,9 +19,11 @@ pub fn every_call(draw: &mut Draw, channel: &Channel, list: Option<Vec<u8>>, sea
         held.measure(draw, &best, seen);
         let room = held.room(draw);
         held.tracks(draw, &best, room, seen).ok();
+        held.chain(draw, &best, seen);
         if let Some(list) = list {
             held.measure(draw, &list, seen);
             held.tracks(draw, &list, room, seen).ok();
+            held.chain(draw, &list, seen);
             assert!(channel.measure(&list).is_ok_and(|density| density >= least));
         }
     } else {

@@ -5,11 +5,11 @@ use crate::known::free;
 use crate::leaving::{count_kinds, held, BOUNDS};
 use crate::lent::{span, Held, Seen};
 use crate::reference::{crosses_column, leaves, names, Channel, Record, Refused, Terminal};
-use cazdrob::{Refusal, Routing, Searcher};
+use cazdrob::{Chain, Refusal, Routing, Searcher};
 use std::collections::BTreeMap;
 
 /// Whether a net leaves at the left and at the right: plain, at the left, at the right, at both ends.
-const KINDS: [(bool, bool); 4] = [(false, false), (true, false), (false, true), (true, true)];
+pub const KINDS: [(bool, bool); 4] = [(false, false), (true, false), (false, true), (true, true)];
 
 /// Holds the library's answer on a clean assignment to what is promised of it, by the columns that each net crosses.
 fn promised(channel: &Channel, sheet: &[u8], list: &[u8]) {
@@ -42,10 +42,12 @@ fn promised(channel: &Channel, sheet: &[u8], list: &[u8]) {
     used.dedup();
     assert!(used.into_iter().eq(1..=tracks), "every track of {spans:?} is used");
     assert_eq!(cazdrob::measure(sheet, list), Ok(tracks));
+    // no net lies over another
+    assert_eq!(cazdrob::chain(sheet, list), Ok(Chain { nets: 0, bound: tracks }));
 }
 
 /// Adds one to each count whose case it is.
-fn add(counts: &mut [u32], is: &[bool]) {
+pub fn add(counts: &mut [u32], is: &[bool]) {
     counts.iter_mut().zip(is).for_each(|(count, is)| *count += u32::from(*is));
 }
 
@@ -215,7 +217,7 @@ fn refusals(channel: &Channel, list: &[u8], room: usize) -> Vec<u32> {
 }
 
 /// Makes the list, or what the sheet says of it, wrong in one way: 12, 13 or 14.
-fn spoil(draw: &mut Draw, channel: &mut Channel, list: &mut Vec<u8>) {
+pub fn spoil(draw: &mut Draw, channel: &mut Channel, list: &mut Vec<u8>) {
     let p = channel.top.len();
     let later: Vec<usize> = (1..p).chain(p + 1..list.len()).collect();
     match draw.between(0, 5) {

@@ -7,7 +7,8 @@ fn refusals_have_their_numbers() {
     use Refusal::*;
     let out = OutOfRange { amount: 1 };
     let all = [Short, Mark, Length, Count, Layout, Net, Distance, Beyond, Columns, Cells, NoAssignment, ListLength, NotAllowed, out];
-    for (refusal, number) in all.into_iter().zip(1..).chain([(SheetBuffer, 9), (SpanBuffer, 9), (Module, 16), (Edge, 17), (TwoNets, 18)]) {
+    let others = [(SheetBuffer, 9), (SpanBuffer, 9), (Module, 16), (Edge, 17), (TwoNets, 18), (Circle { net: 1 }, 19)];
+    for (refusal, number) in all.into_iter().zip(1..).chain(others) {
         assert_eq!(refusal.number(), number);
         assert!(refusal.to_string().starts_with(&format!("refused {number}: ")));
     }
@@ -19,6 +20,12 @@ fn an_amount_in_words() {
     for (amount, words) in rows {
         assert_eq!(Refusal::OutOfRange { amount }.to_string(), format!("refused 14: a distance is out of range, {words}"));
     }
+}
+
+#[test]
+fn a_circle_in_words() {
+    let words = "refused 19: the vertical constraints have a circle, with net 65535 on it";
+    assert_eq!(Refusal::Circle { net: 65_535 }.to_string(), words);
 }
 
 /// Small sheets after large ones, refused ones between them, and column buffers that are too short.
