@@ -3,8 +3,8 @@
 mod plain;
 mod sheets;
 
-use cazdrob::{Refusal, Span, Tracks, NETS_MAX};
-use sheets::{open, sets, sheet, Plan};
+use cazdrob::{Chain, Refusal, Span, Tracks, NETS_MAX};
+use sheets::{drawn_pairs, one_chain, open, sets, sheet, sheet_with, Plan};
 use std::hint::black_box;
 use std::process::ExitCode;
 use std::time::{Duration, Instant};
@@ -35,10 +35,12 @@ enum Job {
     PlainMeasure,
     Tracks,
     PlainTracks,
+    Chain,
+    PlainChain,
     Clear,
 }
 
-/// A density, a number of tracks or of sets with a column beyond the end, or the number and the amount of a refusal.
+/// A density, a number of tracks, of nets in a chain or of sets with a column beyond the end, or the number and the amount of a refusal.
 type Answer = Result<u32, (u32, i32)>;
 
 fn refused(why: Refusal) -> (u32, i32) {
@@ -61,6 +63,12 @@ impl Trial {
         Trial { list, ..Trial::new(plan) }
     }
 
+    /// With these nets, 64 a side, in columns 1 to 64.
+    fn full(nets: Vec<usize>) -> Trial {
+        let plan = open(64, 64);
+        Trial { sheet: sheet_with(&plan, nets), list: (1..=64).chain(1..=64).collect(), ..Trial::new(&plan) }
+    }
+
     fn job(&mut self, job: Job) -> Answer {
         let sheet = black_box(&self.sheet[..]);
         let list = black_box(&self.list[..]);
@@ -76,6 +84,8 @@ impl Trial {
             Job::PlainMeasure => plain::measure(sheet, list),
             Job::Tracks => cazdrob::tracks(sheet, list, &mut self.spans).map(|used| used.tracks).map_err(refused),
             Job::PlainTracks => plain::tracks(sheet, list, &mut self.spans).map(|used| used.tracks),
+            Job::Chain => cazdrob::chain(sheet, list).map(|chain| chain.nets).map_err(refused),
+            Job::PlainChain => plain::chain(sheet, list).map(|chain| chain.nets).map_err(|(number, amount, _)| (number, amount)),
             Job::Clear => {
                 black_box(&mut self.work[..]).fill(0);
                 Ok(0)
@@ -138,6 +148,24 @@ impl Trial {
         used.map_err(|(number, _)| format!("tracks: refused {number}"))
     }
 
+    /// Both programs have to give the same chain and bound, or the same net on a circle; else it is no assignment.
+    fn agree_on_chains(&mut self) -> Result<Result<Chain, u16>, String> {
+        let (sheet, list) = (&self.sheet[..], &self.list[..]);
+        let (ours, plain) = (cazdrob::chain(sheet, list), plain::chain(sheet, list));
+        let numbers = |why| match why {
+            Refusal::Circle { net } => (why.number(), 0, net),
+            _ => (refused(why).0, refused(why).1, 0),
+        };
+        if ours.map_err(numbers) != plain {
+            return Err(format!("chain: the library gives {ours:?}, the plain program {plain:?}"));
+        }
+        match ours {
+            Ok(chain) => Ok(Ok(chain)),
+            Err(Refusal::Circle { net }) => Ok(Err(net)),
+            Err(why) => Err(format!("chain: {why}")),
+        }
+    }
+
     // kept as a function for callgrind to find
     #[inline(never)]
     fn run(&mut self, job: Job, times: u32) -> Duration {
@@ -198,6 +226,21 @@ fn track_rows() -> Vec<(&'static str, Plan)> {
         ("32 a side on 64, two pins a net", Plan { nets: 32, ..open(32, 64) }),
         ("32 a side on 64, leaving nets", Plan { nets: 64, first_net: 64_001, ..open(32, 64) }),
     ]
+}
+
+/// What a search of the first four rows finds, and then three sheets that have a pin on each side of every column.
+fn chain_rows() -> Vec<(&'static str, Trial)> {
+    let found = |plan: &Plan| {
+        let mut trial = Trial::new(plan);
+        let _ = trial.job(Job::Search);
+        trial.list = trial.columns.clone();
+        trial
+    };
+    let mut rows: Vec<(&'static str, Trial)> = rows()[..4].iter().map(|(name, plan)| (*name, found(plan))).collect();
+    rows.push(("64 a side on 64, each over the next", Trial::full(one_chain())));
+    rows.push(("64 a side on 64, no circle", Trial::full(drawn_pairs(true))));
+    rows.push(("64 a side on 64, with circles", Trial::full(drawn_pairs(false))));
+    rows
 }
 
 /// Sheets, and then lengths against which the sets are tested.
@@ -300,6 +343,30 @@ gave the same tracks and left the same records. Row 5 has 64 nets of one pin tha
     Ok(())
 }
 
+fn chain_table() -> Result<(), String> {
+    println!("\nChains of vertical constraints\n");
+    println!(
+        "{:<3}  {:<35}  {:>5}  {:>5}  {:>6}  {:>11}{:>11}{:>8}",
+        "row", "sheet", "chain", "bound", "circle", "Cazdrob", "plain", "ratio"
+    );
+    for (k, (name, mut trial)) in chain_rows().into_iter().enumerate() {
+        let answer = trial.agree_on_chains().map_err(|why| format!("row {} of chains: {why}", k + 1))?;
+        let [chain, bound, circle] = match answer {
+            Ok(Chain { nets, bound }) => [nets.to_string(), bound.to_string(), String::new()],
+            Err(net) => [String::new(), String::new(), format!("net {net}")],
+        };
+        let [ours, plain] = trial.time([Job::Chain, Job::PlainChain]);
+        let ratio = plain / ours;
+        println!("{:<3}  {name:<35}  {chain:>5}  {bound:>5}  {circle:>6}  {:>11}{:>11}{ratio:>8.2}", k + 1, span(ours), span(plain));
+    }
+    println!(
+        "
+Rows 1 to 4 have the columns that the search finds for the sheets of the first table, rows 5 to 7 a pin on each side of
+every column. Before the timing both gave the same chain and bound or, where there is a circle, the same net on one."
+    );
+    Ok(())
+}
+
 fn growth(title: &str, plans: &[Plan]) -> Result<(), String> {
     println!("\n{title}\n");
     println!("{:>6}  {:>3}  {:>11}{:>8}  {:>11}{:>8}", "a side", "L", "Cazdrob", "growth", "plain", "growth");
@@ -341,7 +408,7 @@ one with distances. Another machine and other sheets: only the order of magnitud
 
 fn only(words: &[String]) -> Result<(), String> {
     let usage = "usage: bench/run [--only ROW JOB N], where JOB is search, plain, measure, plain-measure, check, plain-check, test, \
-                 plain-test, tracks or plain-tracks";
+                 plain-test, tracks, plain-tracks, chain or plain-chain";
     let [row, job, times] = words else {
         return Err(usage.into());
     };
@@ -358,16 +425,18 @@ fn only(words: &[String]) -> Result<(), String> {
         "plain-test" => Job::PlainTest,
         "tracks" => Job::Tracks,
         "plain-tracks" => Job::PlainTracks,
+        "chain" => Job::Chain,
+        "plain-chain" => Job::PlainChain,
         _ => return Err(usage.into()),
     };
-    let of_tracks = matches!(job, Job::Tracks | Job::PlainTracks);
-    let rows = match job {
-        Job::Tracks | Job::PlainTracks => track_rows(),
-        Job::Check | Job::PlainCheck | Job::Test | Job::PlainTest => check_rows(),
-        _ => rows(),
+    let of = |rows: Vec<(&'static str, Plan)>, trial: fn(&Plan) -> Trial| rows.iter().map(|(_, plan)| trial(plan)).collect();
+    let trials: Vec<Trial> = match job {
+        Job::Tracks | Job::PlainTracks => of(track_rows(), Trial::clean),
+        Job::Check | Job::PlainCheck | Job::Test | Job::PlainTest => of(check_rows(), Trial::new),
+        Job::Chain | Job::PlainChain => chain_rows().into_iter().map(|(_, trial)| trial).collect(),
+        _ => of(rows(), Trial::new),
     };
-    let (_, plan) = row.checked_sub(1).and_then(|k| rows.get(k)).ok_or("no such row")?;
-    let mut trial = if of_tracks { Trial::clean(plan) } else { Trial::new(plan) };
+    let mut trial = row.checked_sub(1).and_then(|k| trials.into_iter().nth(k)).ok_or("no such row")?;
     if matches!(job, Job::Measure | Job::PlainMeasure) {
         trial.agree()?.ok();
     }
@@ -380,6 +449,7 @@ fn tables() -> Result<(), String> {
     main_table()?;
     check_table()?;
     track_table()?;
+    chain_table()?;
     growth("Search as L doubles", &[16, 32, 64].map(|length| open(8, length)))?;
     growth("Search as p and q double", &[4, 8, 16, 32].map(|pins| open(pins, 64)))?;
     paper_table()

@@ -1,8 +1,8 @@
 //! The program that the library is compared with: section 5.1 of Cai and Wong's paper written down directly. The table is
 //! d(i, j, u, v), the least density with the i-th top pin in column u and the j-th bottom pin in column v. Tracks are given by the
-//! left-edge method.
+//! left-edge method, and the longest chain of vertical constraints by a depth-first search.
 
-use cazdrob::{Span, Tracks};
+use cazdrob::{Chain, Span, Tracks};
 use std::ops::Range;
 
 const INFINITY: u16 = u16::MAX;
@@ -365,10 +365,13 @@ fn stretches(channel: &Channel, columns: &[u8]) -> Vec<(u16, u8, u8)> {
 /// The density of a column list, or the number and the amount of a refusal.
 pub fn measure(sheet: &[u8], columns: &[u8]) -> Result<u32, (u32, i32)> {
     let channel = assigned(sheet, columns)?;
-    let nets = stretches(&channel, columns);
+    Ok(density(&channel, &stretches(&channel, columns)))
+}
+
+fn density(channel: &Channel, nets: &[(u16, u8, u8)]) -> u32 {
     // a plain net whose pins share one column crosses nothing
     let crossings = (1..=channel.length as u8).map(|c| nets.iter().filter(|net| net.1 < net.2 && net.1 <= c && c <= net.2).count());
-    Ok(crossings.max().unwrap_or(0) as u32)
+    crossings.max().unwrap_or(0) as u32
 }
 
 /// The tracks of a clean assignment, or the number and the amount of a refusal.
@@ -409,4 +412,85 @@ pub fn tracks(sheet: &[u8], columns: &[u8], spans: &mut [Span]) -> Result<Tracks
         *span = Span { net, left: left.into(), right: right.into(), track };
     }
     Ok(Tracks { nets: nets.len(), tracks: ends.len() as u32 })
+}
+
+/// For each net, by its place among the stretches, those that it lies over. A plain net whose pins share one column lies over none, and
+/// none over it: it has one pin, or both pins of the column.
+fn constraints(channel: &Channel, columns: &[u8], nets: &[(u16, u8, u8)]) -> Vec<Vec<usize>> {
+    let (on_top, at_bottom) = columns.split_at(channel.top.len());
+    let place = |net: u16| nets.iter().position(|other| other.0 == net).filter(|&place| nets[place].1 < nets[place].2);
+    // the net of the top pin of each column
+    let mut over = [None; 65];
+    for (terminal, &column) in channel.top.iter().zip(on_top) {
+        over[usize::from(column)] = place(terminal.net);
+    }
+    let mut below = vec![Vec::new(); nets.len()];
+    for (terminal, &column) in channel.bottom.iter().zip(at_bottom) {
+        if let (Some(above), Some(net)) = (over[usize::from(column)], place(terminal.net)) {
+            if above != net {
+                below[above].push(net);
+            }
+        }
+    }
+    below
+}
+
+#[derive(Clone, Copy)]
+enum Colour {
+    White,
+    Grey,
+    /// with the nets of the longest chain from here on
+    Black(u32),
+}
+
+/// How many nets the longest chain from a net on has, or none where a circle is met.
+fn longest_from(below: &[Vec<usize>], colours: &mut [Colour], net: usize) -> Option<u32> {
+    match colours[net] {
+        Colour::Black(nets) => return Some(nets),
+        Colour::Grey => return None,
+        Colour::White => {}
+    }
+    colours[net] = Colour::Grey;
+    let mut longest = 0;
+    for &next in &below[net] {
+        longest = longest.max(longest_from(below, colours, next)?);
+    }
+    colours[net] = Colour::Black(longest + 1);
+    Some(longest + 1)
+}
+
+/// Whether a search from a net comes back to it.
+fn comes_back(below: &[Vec<usize>], net: usize) -> bool {
+    let mut seen = vec![false; below.len()];
+    let mut waiting = vec![net];
+    while let Some(at) = waiting.pop() {
+        for &next in &below[at] {
+            if next == net {
+                return true;
+            }
+            if !seen[next] {
+                seen[next] = true;
+                waiting.push(next);
+            }
+        }
+    }
+    false
+}
+
+/// The longest chain of vertical constraints and the bound, or the number, the amount and the net of a refusal.
+pub fn chain(sheet: &[u8], columns: &[u8]) -> Result<Chain, (u32, i32, u16)> {
+    let channel = assigned(sheet, columns).map_err(|(number, amount)| (number, amount, 0))?;
+    let nets = stretches(&channel, columns);
+    let below = constraints(&channel, columns, &nets);
+    let mut colours = vec![Colour::White; nets.len()];
+    let mut longest = 0;
+    for net in 0..nets.len() {
+        let Some(chain) = longest_from(&below, &mut colours, net) else {
+            let on_circles = (0..nets.len()).filter(|&net| comes_back(&below, net));
+            return Err((19, 0, on_circles.map(|net| nets[net].0).min().unwrap_or(0)));
+        };
+        longest = longest.max(chain);
+    }
+    let longest = if longest < 2 { 0 } else { longest };
+    Ok(Chain { nets: longest, bound: longest.max(density(&channel, &nets)) })
 }

@@ -48,7 +48,28 @@ pub fn sheet(plan: &Plan) -> Vec<u8> {
             side.swap(k, draws.below(k + 1));
         }
     }
-    let mut bytes = Vec::with_capacity(12 * pins + 12);
+    sheet_with(plan, nets)
+}
+
+/// 64 nets on top and 64 at the bottom, each over the next: a chain of 65.
+pub fn one_chain() -> Vec<usize> {
+    (64_001..64_065).chain(64_002..64_066).collect()
+}
+
+/// 64 nets on top and 64 at the bottom, drawn from 40; in order, the lower one of each pair is on top, so that there is no circle.
+pub fn drawn_pairs(in_order: bool) -> Vec<usize> {
+    let mut draws = Draws(0x3c6e_f372_fe94_f82a);
+    let mut nets: Vec<usize> = (0..128).map(|_| draws.below(40) + 1).collect();
+    let (top, bottom) = nets.split_at_mut(64);
+    for (above, below) in top.iter_mut().zip(bottom).filter(|(above, below)| in_order && above > below) {
+        std::mem::swap(above, below);
+    }
+    nets
+}
+
+/// The bytes of a sheet with these nets, top then bottom.
+pub fn sheet_with(plan: &Plan, nets: Vec<usize>) -> Vec<u8> {
+    let mut bytes = Vec::with_capacity(12 * nets.len() + 12);
     for (k, net) in nets.into_iter().enumerate() {
         let first = k == 0 || k == plan.top;
         let (least, greatest) = if first { (0, 0) } else { plan.range };
