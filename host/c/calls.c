@@ -322,7 +322,7 @@ int main(void) {
     EXPECT(cazdrob_check(A, 11) == CAZDROB_SHORT);
     EXPECT(cazdrob_cells(A, 11) == 0);
     EXPECT(refused(search(A, 11, 4, 144), CAZDROB_SHORT, 0));
-    EXPECT(refuses(59, 'Q', CAZDROB_MARK));
+    EXPECT(refuses(59, 'X', CAZDROB_MARK));
     EXPECT(refuses(56, 0, CAZDROB_LENGTH));
     EXPECT(refuses(56, 65, CAZDROB_LENGTH));
     EXPECT(refuses(50, 65, CAZDROB_COUNT));

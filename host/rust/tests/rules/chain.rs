@@ -402,7 +402,7 @@ fn known_circles() {
     let mut sheet = sheet_of(&channel, false);
     assert_eq!(cazdrob::chain(&sheet, &list), Err(Refusal::Circle { net: 1 }));
     let last = sheet.len() - 1;
-    sheet[last] = b'Q';
+    sheet[last] = b'X';
     assert_eq!(cazdrob::chain(&sheet, &list), Err(Refusal::Mark));
 }
 

@@ -70,7 +70,7 @@ pub fn damage(draw: &mut Draw, sheet: &mut Vec<u8>) {
         3 => drop(sheet.drain(..draw.between(1, 14).min(len))),
         4 => sheet.insert(draw.between(0, len), draw.byte()),
         5 => sheet.extend((0..draw.between(1, 24)).map(|_| draw.byte()).collect::<Vec<u8>>()),
-        6 if len >= 2 => sheet[len - 2..].copy_from_slice(&draw.of(&[*b"CQ", *b"CW", *b"PC", *b"cp", *b"CC", *b"PP", *b"C\0"])),
+        6 if len >= 2 => sheet[len - 2..].copy_from_slice(&draw.of(&[*b"CX", *b"CW", *b"PC", *b"cp", *b"CC", *b"PP", *b"C\0"])),
         7 | 8 if len >= 12 => damage_trailer(draw, sheet),
         9 if len >= 12 => {
             // the offsets exchanged
@@ -168,7 +168,7 @@ fn trailer_fields_off_by_one() {
                     }
                 }
                 for at in sheet.len() - 2..sheet.len() {
-                    for step in [1, 255, 32] {
+                    for step in [2, 255, 32] {
                         let mut other = sheet.clone();
                         other[at] = other[at].wrapping_add(step);
                         every_call(&mut draw, other, &mut seen);
