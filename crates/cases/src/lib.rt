@@ -3,6 +3,7 @@
 #![tactic(auto)]
 
 use fixtures::{Page, Plan, SheetA};
+use mark::Mark;
 use std::io;
 use terminal::Record;
 use trailer::{Part, Trailer};
@@ -63,22 +64,25 @@ pub fn low(n: u64) -> u8 {
 fn build(page: &mut Page, command: Command) {
     let [a, b, c, d, e, f] = command.numbers;
     let at = a as usize;
+    let mark = if e == 1 { Mark::Cq } else { Mark::Cp };
     let plan = Plan {
         columns: low(a),
         top: low(b),
         bottom: low(c),
         bottom_first: d == 1,
+        mark,
     };
     // each command has arguments of its own, so a `match` is plainer than a table of closures
     match command.word {
-        // sheet A: columns, set, greatest distance, 1 for the bottom section first
+        // sheet A: columns, set, greatest distance, 1 for the bottom section first, 1 for the mark CQ
         "A" => page.put_sheet_a(SheetA {
             columns: low(a),
             set: b,
             greatest: low(c),
             bottom_first: d == 1,
+            mark,
         }),
-        // a usual sheet: columns, p, q, 1 for the bottom section first
+        // a usual sheet: columns, p, q, 1 for the bottom section first, 1 for the mark CQ
         "sheet" => page.put_usual(plan),
         // the end of a sheet, by the same numbers
         "end" => page.close(plan),
@@ -92,7 +96,7 @@ fn build(page: &mut Page, command: Command) {
                 allowed: e,
             },
         ),
-        // a trailer: where it starts, both offsets and counts, columns
+        // a trailer with the mark CP: where it starts, both offsets and counts, columns
         "trailer" => page.put_trailer(
             at,
             Trailer {
@@ -106,6 +110,7 @@ fn build(page: &mut Page, command: Command) {
                 },
                 columns: f as usize,
             },
+            Mark::Cp,
         ),
         // two bytes: where they start, and their values
         "bytes" => {

@@ -4,10 +4,9 @@
 use Rattle.std.proofs.Common.{Result, Ok, Err, Option, Some, None, ℕ, ◌≡◌, ◌<◌, ◌≤◌, ◌⊎◌, inl, inr, refl, sym, ◌∙◌, ap, subst, List, ◌++◌, Bool, true, arith, pos}
 use Rattle.std.proofs.lemmas.Bool.{cases_lt}
 use Rattle.std.proofs.Math.Path.{fun_ext}
-use Rattle.channel.specs.Sheet.{Sheet, Sound}
+use Rattle.channel.specs.Sheet.{Sheet, Sound, all_nets}
 use Rattle.channel.specs.Assignment.{is_assignment}
-use Rattle.channel.specs.Density.{pins, crosses, density, column_density, nets_of}
-use Rattle.channel.specs.Cut.{nets}
+use Rattle.channel.specs.Density.{pins, straight_in, crosses, density, column_density, nets_of}
 use Rattle.refusals.proofs.Refused.{list_number_some}
 use Rattle.soundness.specs.Read.{sheet_of}
 use Rattle.soundness.proofs.Laws.{read_checked, read-sound}
@@ -39,9 +38,9 @@ Decided s cs over r = Decides s cs over (number_of r) (chain_of r) (bound_of r) 
 -- the density of a column list is a bound of its wirings
 density-bound :
     (s : Sheet) (cs : List ℕ) (over : ℕ → ℕ → Bool) (tracks : ℕ) (track : ℕ → ℕ)
-    → Wired s.columns (crosses (pins (s.top ++ s.bottom) cs)) over tracks track → density s cs ≤ tracks
+    → Wired s.columns (crosses (straight_in s) (pins (s.top ++ s.bottom) cs)) over tracks track → density s cs ≤ tracks
 unfolding density column_density nets_of
-density-bound s cs over tracks track w = density-tracks s.columns _ over tracks track w (nets (s.top ++ s.bottom))
+density-bound s cs over tracks track w = density-tracks s.columns _ over tracks track w (all_nets s)
 
 -- an answer about these constraints on a column list
 module _ (s : Sheet) (cs : List ℕ) (vs : List Constraint) where
@@ -51,7 +50,7 @@ module _ (s : Sheet) (cs : List ℕ) (vs : List Constraint) where
   -- the nets of a chain are on different tracks
   chain-bound :
       lowest_on_circle vs ≡ None → (tracks : ℕ) (track : ℕ → ℕ)
-      → Wired s.columns (crosses (pins (s.top ++ s.bottom) cs)) (listed_over vs) tracks track → longest_chain vs ≤ tracks
+      → Wired s.columns (crosses (straight_in s) (pins (s.top ++ s.bottom) cs)) (listed_over vs) tracks track → longest_chain vs ≤ tracks
   chain-bound e tracks track w = go (cases_lt 0 (longest_chain vs))
     where
       go : (0 < longest_chain vs) ⊎ (longest_chain vs ≤ 0) → longest_chain vs ≤ tracks

@@ -3,7 +3,7 @@
 -- Assumes nothing.
 use Rattle.std.specs.Prelude.{ℕ, ◌+◌, ◌≤◌, ◌<◌, ◌≡◌, ◌↔◌, max, List, ◌++◌, Bool, true, false, length, ℤ}
 use Rattle.channel.specs.Sheet.{Sheet}
-use Rattle.channel.specs.Density.{pins, crosses, density}
+use Rattle.channel.specs.Density.{pins, straight_in, crosses, density}
 use Rattle.soundness.specs.Read.{read}
 use Rattle.soundness.specs.Read.Read.{sound}
 use Rattle.relation.specs.Relation.{path}
@@ -29,7 +29,7 @@ pub record Decides (s : Sheet) (columns : List ℕ) (over : ℕ → ℕ → Bool
   pub greater : number ≡ 0 → bound ≡ max chain (density s columns)
   pub fewest :
       number ≡ 0 → (tracks : ℕ) (track : ℕ → ℕ)
-      → Wired s.columns (crosses (pins (s.top ++ s.bottom) columns)) over tracks track → bound ≤ tracks
+      → Wired s.columns (crosses (straight_in s) (pins (s.top ++ s.bottom) columns)) over tracks track → bound ≤ tracks
 
 -- all of it: the number and the amount of the list's check come first; "every other answer carries net 0, and a refusal carries chain 0 and
 -- bound 0"

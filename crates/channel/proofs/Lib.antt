@@ -12,4 +12,5 @@ pub mod Sides
 pub mod Pairs
 pub mod Crossings
 pub mod Spans
+pub mod Straight
 pub mod Worked

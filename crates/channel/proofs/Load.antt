@@ -7,12 +7,12 @@ use Rattle.std.proofs.Math.Path.{fun_ext}
 use Rattle.std.proofs.lemmas.Bool.{false≢true}
 use Rattle.kind.specs.declared.Kind.{Kind}
 use Rattle.kind.specs.Kinds.{kind_of, leaves_left, leaves_right}
-use Rattle.channel.specs.Sheet.{Terminal, Sheet}
-use Rattle.channel.specs.Density.{pins, crossing, crossing_of, crosses, distinct, nets_of}
+use Rattle.channel.specs.Sheet.{Terminal, Sheet, nets}
+use Rattle.channel.specs.Density.{pins, straight_in, crossing, crossing_of, crosses, distinct, nets_of}
 use Rattle.channel.specs.Density.{weight, weight_of, column_density, maximum_to, density}
 use Rattle.channel.specs.Word.{Letter, has_top, has_bottom, columns_of}
 use Rattle.channel.specs.Word.Letter.{empty, top, bottom, both}
-use Rattle.channel.specs.Cut.{count, nets, has, left_of, here_of, right_of, left_nets, here_nets}
+use Rattle.channel.specs.Cut.{count, has, left_of, here_of, right_of, left_nets, here_nets}
 use Rattle.channel.specs.Cut.{right_nets, crosses_cut, load, occupied, first_load, word_load}
 use Rattle.channel.proofs.Pins.{Test, word_cut, any_swap}
 
@@ -39,8 +39,8 @@ module _ (s : Sheet) (v : List Letter) (a : Letter) (u : List Letter)
   crosses_cut_lem : (n : ℕ)
       → let i : ℕ = count has_top (a ∷ u) in
       let j : ℕ = count has_bottom (a ∷ u) in
-      crosses (pins (s.top ++ s.bottom) (columns_of (v ++ a ∷ u))) n (suc (length u))
-      ≡ crosses_cut n (left_nets s a i j) (here_nets s a i j) (right_nets s i j)
+      crosses (straight_in s) (pins (s.top ++ s.bottom) (columns_of (v ++ a ∷ u))) n (suc (length u))
+      ≡ crosses_cut (straight_in s) n (left_nets s a i j) (here_nets s a i j) (right_nets s i j)
   unfolding crosses
   crosses_cut_lem n =
       let c : ℕ = suc (length u) in
@@ -104,20 +104,20 @@ module _ (s : Sheet) (a : Letter) (i j : ℕ) where
           rw (← next_right (has_top a) i (nets s.top), ← next_right (has_bottom a) j (nets s.bottom))
           (rw any_swap)
 
-      cross : (k : Kind) (l h r : Bool) → crossing_of k l false (h || r) ≡ true → crossing_of k l h r ≡ true
-      cross k l h r = go (leaves_left k || l) (leaves_right k)
+      cross : (k : Kind) (counted l h r : Bool) → crossing_of k counted l false (h || r) ≡ true → crossing_of k counted l h r ≡ true
+      cross k counted l h r = go (leaves_left k || l) (leaves_right k)
         where
-          go : (u v : Bool) → crossing u false (v || (h || r)) ≡ true → crossing u h (v || r) ≡ true
-          go true true e = rw or-true
+          go : (u v : Bool) → crossing counted u false (v || (h || r)) ≡ true → crossing counted u h (v || r) ≡ true
+          go true true e = rw (or-true h, or-true counted)
           go true false e = e
           go false v e = absurd (false≢true e)
 
       more : (n : ℕ)
-          → crosses_cut n (left_nets s empty i j) (here_nets s empty i j) (right_nets s i j) ≡ true
-          → crosses_cut n (left_nets s a x y) (here_nets s a x y) (right_nets s x y) ≡ true
+          → crosses_cut (straight_in s) n (left_nets s empty i j) (here_nets s empty i j) (right_nets s i j) ≡ true
+          → crosses_cut (straight_in s) n (left_nets s a x y) (here_nets s a x y) (right_nets s x y) ≡ true
       more n e =
           rw left
-          (cross (kind_of n) (has n (left_nets s empty i j)) (has n (here_nets s a x y)) (has n (right_nets s x y)) (rw (right n) at e))
+          (cross (kind_of n) (straight_in s n) (has n (left_nets s empty i j)) (has n (here_nets s a x y)) (has n (right_nets s x y)) (rw (right n) at e))
 
   -- and so has one just right of it: what crosses that one stands in this one or reaches left of it, and reaches right of it
   pub empty_right_load : load s empty x y ≤ load s a x y
@@ -129,22 +129,23 @@ module _ (s : Sheet) (a : Letter) (i j : ℕ) where
           rw (← next_here (has_top a) i (nets s.top), ← next_here (has_bottom a) j (nets s.bottom))
           (rw any_swap)
 
-      cross : (k : Kind) (l h r : Bool) → crossing_of k (l || h) false r ≡ true → crossing_of k l h r ≡ true
-      cross k l h r = go (leaves_left k) l h (leaves_right k || r)
+      cross : (k : Kind) (counted l h r : Bool) → crossing_of k counted (l || h) false r ≡ true → crossing_of k counted l h r ≡ true
+      cross k counted l h r = go (leaves_left k) l h (leaves_right k || r)
         where
-          go : (u l h v : Bool) → crossing (u || (l || h)) false v ≡ true → crossing (u || l) h v ≡ true
-          go true l true v e = refl
+          go : (u l h v : Bool) → crossing counted (u || (l || h)) false v ≡ true → crossing counted (u || l) h v ≡ true
+          go true l true v e = rw or-true
           go true l false v e = e
-          go false true true v e = refl
+          go false true true v e = rw or-true
           go false true false v e = e
-          go false false true true e = refl
-          go false false true false e = e
+          go false false true true e = rw or-true
+          go false false true false e = absurd (false≢true e)
           go false false false v e = e
 
       more : (n : ℕ)
-          → crosses_cut n (left_nets s empty x y) (here_nets s empty x y) (right_nets s x y) ≡ true
-          → crosses_cut n (left_nets s a x y) (here_nets s a x y) (right_nets s x y) ≡ true
-      more n e = cross (kind_of n) (has n (left_nets s a x y)) (has n (here_nets s a x y)) (has n (right_nets s x y)) (rw (left n) at e)
+          → crosses_cut (straight_in s) n (left_nets s empty x y) (here_nets s empty x y) (right_nets s x y) ≡ true
+          → crosses_cut (straight_in s) n (left_nets s a x y) (here_nets s a x y) (right_nets s x y) ≡ true
+      more n e =
+          cross (kind_of n) (straight_in s n) (has n (left_nets s a x y)) (has n (here_nets s a x y)) (has n (right_nets s x y)) (rw (left n) at e)
 
 -- so a column right of all pins has a load no greater than that of an occupied one, and with no pins at all it is 0
 last-load : (s : Sheet) (w : List Letter) → count has_top w ≡ length s.top → count has_bottom w ≡ length s.bottom

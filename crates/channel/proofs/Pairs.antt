@@ -5,7 +5,7 @@ use Rattle.std.proofs.Common.{◌≡◌, ℕ, ◌+◌, ◌-◌, ◌≤◌, Bool,
 use Rattle.std.proofs.Math.ListN.{length-replicate, length-map}
 use Rattle.std.proofs.lemmas.Bool.{false≢true}
 use Rattle.std.proofs.lemmas.List.{map-append}
-use Rattle.channel.specs.Sheet.{Terminal, Sheet, Sound}
+use Rattle.channel.specs.Sheet.{Terminal, Sheet, Sound, nets, all_nets}
 use Rattle.channel.specs.Assignment.{side_fits, fits, is_assignment}
 use Rattle.channel.specs.Density.{nets_of, density}
 use Rattle.channel.specs.Word.{Letter, has_top, has_bottom, columns_with, columns_of, word}
@@ -13,7 +13,7 @@ use Rattle.channel.specs.Word.Letter.{empty, top, bottom}
 use Rattle.channel.specs.Best.{Found, best, Answers, IsBest}
 use Rattle.channel.specs.Best.Found.{none, found}
 use Rattle.channel.specs.Pairs.{Alike, Loosened, Free, BothFree, Lengthened, LeastKept}
-use Rattle.channel.specs.Cut.{count, nets, load, word_load}
+use Rattle.channel.specs.Cut.{count, load, word_load}
 use Rattle.channel.proofs.Pins.{word_rises, length-columns}
 use Rattle.channel.proofs.Assignments.{word_fits, fits_sides, length-word, columns_of-word, fits_word, assignment_columns_of}
 use Rattle.channel.proofs.Load.{density-load}
@@ -21,8 +21,9 @@ use Rattle.channel.proofs.Packed.{count-front, columns_padded, load_padded, refi
 use Rattle.channel.proofs.Sides.{side-count, side_looser, Each, side_free}
 use Rattle.channel.proofs.Best.{best_answers}
 
--- two sheets with the same nets in the same places
+-- two sheets with the same mark, and the same nets in the same places
 record SameNets (s t : Sheet) : Type 0 where
+  mark : s.mark ≡ t.mark
   top : nets s.top ≡ nets t.top
   bottom : nets s.bottom ≡ nets t.bottom
 
@@ -35,23 +36,22 @@ alike_nets n h (t ∷ ts) [] a = absurd a
 alike_nets n h (t ∷ ts) (u ∷ us) a = rw (n h t u a.0, alike_nets n false ts us a.1)
 
 same_nets : (s t : Sheet) {R : Bool → Terminal → Terminal → Type 0} → ((h : Bool) (t u : Terminal) → R h t u → t.net ≡ u.net)
+    → s.mark ≡ t.mark
     → Alike R true s.top t.top
     → Alike R true s.bottom t.bottom
     → SameNets s t
-same_nets s t n x y = record { top = alike_nets n true s.top t.top x; bottom = alike_nets n true s.bottom t.bottom y }
+same_nets s t n m x y = record { mark = m; top = alike_nets n true s.top t.top x; bottom = alike_nets n true s.bottom t.bottom y }
 
 -- such sides have as many terminals
 nets-length : (ts us : List Terminal) → nets ts ≡ nets us → length ts ≡ length us
 nets-length ts us e = simp length-map at (ap length e)
 
--- sheets with the same nets give a word the same load
-nets_of_same : (s t : Sheet) → SameNets s t → nets_of s ≡ nets_of t
-unfolding nets_of
-nets_of_same s t e = simp (map-append, e.top, e.bottom)
-
+-- such sheets give a word the same load
 load_same : (s t : Sheet) → SameNets s t → (a : Letter) (i j : ℕ) → load s a i j ≡ load t a i j
-unfolding load
-load_same s t e a i j = rw (nets_of_same s t e, e.top, e.bottom)
+unfolding load nets_of
+load_same s t e a i j =
+    let all : all_nets s ≡ all_nets t = simp (map-append, e.top, e.bottom) in
+    rw (all, e.mark, e.top, e.bottom)
 
 word_load_same : (s t : Sheet) → SameNets s t → (w : List Letter) → word_load s w ≡ word_load t w
 word_load_same s t e [] = refl
@@ -142,7 +142,7 @@ lengthened_free : (s t : Sheet) → Lengthened s t → FreeSheet s × FreeSheet 
 lengthened_free s t r =
     let (a, b) = alike_free s.columns t.columns true s.top t.top r.top in
     let (c, d) = alike_free s.columns t.columns true s.bottom t.bottom r.bottom in
-    let n : SameNets s t = same_nets s t (λ h x y z. z.net) r.top r.bottom in
+    let n : SameNets s t = same_nets s t (λ h x y z. z.net) r.mark r.top r.bottom in
     let p : length s.top ≡ length t.top = nets-length s.top t.top n.top in
     let q : length s.bottom ≡ length t.bottom = nets-length s.bottom t.bottom n.bottom in
     (record { room = r.room; top = a; bottom = c }, record { room = omega arith; top = b; bottom = d }, n)
@@ -185,13 +185,13 @@ least_kept s t h k = record { loosened = loosened; lengthened = lengthened }
   where
     loosened : Loosened s t → (d : ℕ) (cs : List ℕ) → best s ≡ found d cs → (e : ℕ) × (es : List ℕ) × (best t ≡ found e es) × (e ≤ d)
     loosened r =
-        carry s t h k (same_nets s t (λ h x y z. z.net) r.top r.bottom)
+        carry s t h k (same_nets s t (λ h x y z. z.net) r.mark r.top r.bottom)
         (λ w f. (replicate (t.columns - s.columns) empty ++ w, looser_fitting s t r w f, load_padded t (t.columns - s.columns) w))
 
     lengthened : Lengthened s t → (d : ℕ) × (cs : List ℕ) × (es : List ℕ) × (best s ≡ found d cs) × (best t ≡ found d es)
     lengthened r =
         let (f, g, n) = lengthened_free s t r in
-        let m : SameNets t s = record { top = sym n.top; bottom = sym n.bottom } in
+        let m : SameNets t s = record { mark = sym n.mark; top = sym n.top; bottom = sym n.bottom } in
         let (w, fit) = free_word s h.columns.1 f in
         let (d, cs, x, _) = least-word s h w fit in
         let (e, es, y, below) = carry s t h k n (free_move s t k.columns.1 g n) d cs x in

@@ -3,10 +3,10 @@
 use Rattle.std.proofs.Common.{◌≡◌, ℕ, suc, ◌+◌, ◌<◌, ◌≤◌, Bool, true, false, cond, ◌&&◌, ◌||◌, eqb, List, [], ◌∷◌, ◌++◌, length, take, drop, sym, refl, ◌∙◌, append_assoc, append-nil, le_refl, add-one, arith, length-append, length-drop, length-take, drop-drop, take_at, drop_at}
 use Rattle.std.proofs.Math.Bool.{or_assoc, or-true, and-true, and-false, and-or_distrib_left}
 use Rattle.std.proofs.lemmas.List.{take-map, drop-map}
-use Rattle.channel.specs.Sheet.{Terminal, Sheet}
+use Rattle.channel.specs.Sheet.{Terminal, Sheet, nets}
 use Rattle.channel.specs.Density.{any, pins, some_pin}
 use Rattle.channel.specs.Word.{Letter, has_top, has_bottom, columns_with, columns_of}
-use Rattle.channel.specs.Cut.{count, nets, has, left_of, here_of, right_of, left_nets, here_nets, right_nets}
+use Rattle.channel.specs.Cut.{count, has, left_of, here_of, right_of, left_nets, here_nets, right_nets}
 use Rattle.channel.proofs.Columns.{Rises, rises_bound, any_append}
 
 -- columns that rise up to l, with columns after them that rise from there

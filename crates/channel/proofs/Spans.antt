@@ -1,26 +1,25 @@
 -- How far a net reaches decides which columns it crosses, and a sum over the terminals in their order counts each net once.
 -- Assumes nothing.
-use Rattle.std.proofs.Common.{◌≡◌, ℕ, zero, suc, ◌+◌, ◌<◌, ◌≤◌, min, max, Bool, true, false, cond, ◌&&◌, ◌||◌, eqb, ltb, leb, List, [], ◌∷◌, ◌++◌, length, sym, refl, ap, ◌∙◌, ap₂, zero-add, arith, ltb-false, ltb-true, le-ltb, lt-ltb, eq-eqb, ne_eqb, eqb-true, le-leb, leb-false, leb-true}
+use Rattle.std.proofs.Common.{◌≡◌, ℕ, zero, suc, ◌+◌, ◌<◌, ◌≤◌, min, max, Bool, true, false, cond, ◌&&◌, ◌||◌, eqb, ltb, leb, List, [], ◌∷◌, ◌++◌, length, sym, refl, ap, ◌∙◌, ap₂, zero-add, arith, ltb-false, le-leb, leb-true}
 use Rattle.std.proofs.Math.Bool.{and-false, or_assoc, or-true, or-false}
 use Rattle.std.proofs.Math.Path.{fun_ext}
-use Rattle.std.proofs.lemmas.Bool.{lt-leb, eqb-false}
+use Rattle.std.proofs.lemmas.Bool.Decides.{nat_tests}
 use Rattle.kind.specs.declared.Kind.{Kind}
 use Rattle.kind.specs.Kinds.{kind_of, leaves_left, leaves_right, left_start, right_start}
 use Rattle.kind.proofs.Starts.{left_start_lem, left-start-before, left-start-apart, right_start_lem, right-start-from, right-start-apart}
-use Rattle.channel.specs.Sheet.{Sheet}
-use Rattle.channel.specs.Density.{any, Pin, pins, crossing, crosses, distinct, nets_of, weight}
+use Rattle.channel.specs.Sheet.{Sheet, all_nets}
+use Rattle.channel.specs.Density.{any, Pin, pins, straight_in, crossing, crosses, distinct, nets_of, weight}
 use Rattle.channel.specs.Density.{weight_of, column_density, maximum_to, density}
-use Rattle.channel.specs.Cut.{nets}
-use Rattle.channel.specs.Spans.{net_columns, end_from, leftmost, rightmost, spans, sum_last}
+use Rattle.channel.specs.Spans.{net_columns, end_from, leftmost, rightmost, within, counts, spans, sum_last}
 use Rattle.channel.proofs.Crossings.{crossed, crosses-columns, any_left, any_right}
 
 -- one pick after the other over a list of columns
-abbrev pick_from : (ℕ → ℕ → ℕ) → ℕ → List ℕ → ℕ
+abbrev pub pick_from : (ℕ → ℕ → ℕ) → ℕ → List ℕ → ℕ
 pick_from pick k [] = k
 pick_from pick k (j ∷ ks) = pick_from pick (pick k j) ks
 
 -- one end of a net depends on its own columns alone
-end_columns : (pick : ℕ → ℕ → ℕ) (start n : ℕ) (ps : List Pin) → end_from pick start n ps ≡ pick_from pick start (net_columns n ps)
+pub end_columns : (pick : ℕ → ℕ → ℕ) (start n : ℕ) (ps : List Pin) → end_from pick start n ps ≡ pick_from pick start (net_columns n ps)
 end_columns pick start n [] = refl
 end_columns pick start n (p ∷ ps) = go (eqb p.net n) (λ k. end_columns pick k n ps)
   where
@@ -38,30 +37,20 @@ pick-any pick f h k (j ∷ ks) = rw (pick-any pick f h (pick k j) ks, h, or_asso
 
 -- the smaller of two columns is at or left of c exactly if either is; and the larger, at or right of it
 leb-min : (c i j : ℕ) → leb (min i j) c ≡ (leb i c || leb j c)
-leb-min c i j = go (leb i c) refl (leb j c) refl
-  where
-    go : (a : Bool) → leb i c ≡ a → (b : Bool) → leb j c ≡ b → leb (min i j) c ≡ (a || b)
-    go true e b d = le-leb (min i j) c (omega (arith, leb-true i c e))
-    go false e true d = le-leb (min i j) c (omega (arith, leb-true j c d))
-    go false e false d = lt-leb (min i j) c (omega (arith, leb-false i c e, leb-false j c d))
+leb-min c i j = grind (arith, nat_tests)
 
 leb-max : (c i j : ℕ) → leb c (max i j) ≡ (leb c i || leb c j)
-leb-max c i j = go (leb c i) refl (leb c j) refl
-  where
-    go : (a : Bool) → leb c i ≡ a → (b : Bool) → leb c j ≡ b → leb c (max i j) ≡ (a || b)
-    go true e b d = le-leb c (max i j) (omega (arith, leb-true c i e))
-    go false e true d = le-leb c (max i j) (omega (arith, leb-true c j d))
-    go false e false d = lt-leb c (max i j) (omega (arith, leb-false c i e, leb-false c j d))
+leb-max c i j = grind (arith, nat_tests)
 
 -- likewise left of c
 ltb-min : (c i j : ℕ) → ltb (min i j) c ≡ (ltb i c || ltb j c)
 ltb-min c i j = ap (λ (k : ℕ). leb k c) (omega arith) ∙ leb-min c (suc i) (suc j)
 
 -- a crossing with something on both sides, or on neither, does not ask what stands in the column
-crossing_here : (l h i r : Bool) → (l ≡ false → h ≡ i) → (r ≡ false → h ≡ i) → crossing l h r ≡ crossing l i r
-crossing_here true h i true e d = rw (or-true h, or-true i)
-crossing_here true h i false e d = rw (d refl)
-crossing_here false h i r e d = rw (e refl)
+crossing_here : (counted l h i r : Bool) → (l ≡ false → h ≡ i) → (r ≡ false → h ≡ i) → crossing counted l h r ≡ crossing counted l i r
+crossing_here counted true h i true e d = rw (or-true h, or-true i)
+crossing_here counted true h i false e d = rw (d refl)
+crossing_here counted false h i r e d = rw (e refl)
 
 -- the least is no greater than the greatest
 ends_order : (a b : ℕ) (ks : List ℕ) → a ≤ b → pick_from min a ks ≤ pick_from max b ks
@@ -69,11 +58,11 @@ ends_order a b [] h = h
 ends_order a b (k ∷ ks) h = ends_order (min a k) (max b k) ks (omega arith)
 
 -- a net of kind k with pins in the columns ks crosses c exactly if its ends do; an end that leaves the channel is in no column
-crossed-span : (k : Kind) (ks : List ℕ) (c : ℕ) → 1 ≤ c → c < 255
-    → crossed k ks c ≡ spans (pick_from min (left_start k) ks) (pick_from max (right_start k) ks) c
-crossed-span k ks c low high =
-    crossing_here _ (any (λ (j : ℕ). eqb j c) ks) (eqb l c || eqb r c) _ at_left at_right
-    ∙ ap₂ (λ (x y : Bool). crossing x (eqb l c || eqb r c) y) (sym left) (sym right)
+crossed-span : (k : Kind) (counted : Bool) (ks : List ℕ) (c : ℕ) → 1 ≤ c → c < 255
+    → crossed k counted ks c ≡ spans counted (pick_from min (left_start k) ks) (pick_from max (right_start k) ks) c
+crossed-span k counted ks c low high =
+    crossing_here counted _ (any (λ (j : ℕ). eqb j c) ks) (within l r c) _ at_left at_right
+    ∙ ap₂ (λ (x y : Bool). crossing counted x (within l r c) y) (sym left) (sym right)
   where
     l : ℕ
     l = pick_from min (left_start k) ks
@@ -98,7 +87,7 @@ crossed-span k ks c low high =
         (λ e. omega arith, λ e. omega arith)
 
     -- nothing left of c: what stands in c is the left end
-    at_left : (leaves_left k || any (λ (j : ℕ). ltb j c) ks) ≡ false → any (λ (j : ℕ). eqb j c) ks ≡ (eqb l c || eqb r c)
+    at_left : (leaves_left k || any (λ (j : ℕ). ltb j c) ks) ≡ false → any (λ (j : ℕ). eqb j c) ks ≡ within l r c
     at_left none = sym stands ∙ go (leb l c) refl
       where
         stands : leb l c ≡ any (λ (j : ℕ). eqb j c) ks
@@ -109,14 +98,12 @@ crossed-span k ks c low high =
         from : c ≤ l
         from = ltb-false l c (left ∙ none)
 
-        go : (x : Bool) → leb l c ≡ x → leb l c ≡ (eqb l c || eqb r c)
-        go true e = e ∙ rw (eq-eqb l c (omega (arith, leb-true l c e, from)))
-        go false e =
-            let behind = leb-false l c e in
-            e ∙ rw (ne_eqb l c (λ q. omega arith), ne_eqb r c (λ q. omega (arith, (order ks).1 q)))
+        go : (x : Bool) → leb l c ≡ x → leb l c ≡ within l r c
+        go true e = rw (e, le-leb c r ((order ks).0 (omega (arith, leb-true l c e, from))))
+        go false e = rw e
 
     -- nothing right of c: it is the right end
-    at_right : (leaves_right k || any (λ (j : ℕ). ltb c j) ks) ≡ false → any (λ (j : ℕ). eqb j c) ks ≡ (eqb l c || eqb r c)
+    at_right : (leaves_right k || any (λ (j : ℕ). ltb c j) ks) ≡ false → any (λ (j : ℕ). eqb j c) ks ≡ within l r c
     at_right none = sym stands ∙ go (leb c r) refl
       where
         stands : leb c r ≡ any (λ (j : ℕ). eqb j c) ks
@@ -127,49 +114,27 @@ crossed-span k ks c low high =
         to : r ≤ c
         to = ltb-false c r (right ∙ none)
 
-        go : (x : Bool) → leb c r ≡ x → leb c r ≡ (eqb l c || eqb r c)
-        go true e = e ∙ rw (eq-eqb r c (omega (arith, leb-true c r e, to)), or-true)
-        go false e =
-            let before = leb-false c r e in
-            e ∙ rw (ne_eqb l c (λ q. omega (arith, (order ks).0 q)), ne_eqb r c (λ q. omega arith))
+        go : (x : Bool) → leb c r ≡ x → leb c r ≡ within l r c
+        go true e = rw (e, le-leb l c ((order ks).1 (omega (arith, leb-true c r e, to))))
+        go false e = rw (e, and-false)
 
--- a net from one column to another crosses each from the one to the other, where the two differ
-pub spans-from : (l r c : ℕ) → spans l r c ≡ (ltb l r && (leb l c && leb c r))
-spans-from l r c = go (ltb l c) refl (ltb c r) refl
-  where
-    by_right : (t : Bool) → eqb r c ≡ t → l < c → r ≤ c → crossing true t false ≡ (ltb l r && (leb l c && leb c r))
-    by_right true e x y = let z = eqb-true r c e in rw (lt-ltb l r (omega arith), le-leb l c (omega arith), le-leb c r (omega arith))
-    by_right false e x y = let z = eqb-false r c e in rw (lt-leb c r (omega arith)) (simp and-false)
+-- a net that reaches from l to r crosses some column where these differ, or it is a straight wire that counts
+pub counts-ends : (counted : Bool) (l r : ℕ) → counts counted l r ≡ (ltb l r || (eqb l r && counted))
+counts-ends counted l r = grind (arith, nat_tests)
 
-    by_left : (t : Bool) → eqb l c ≡ t → c ≤ l → c < r → crossing false (t || false) true ≡ (ltb l r && (leb l c && leb c r))
-    by_left true e x y = let z = eqb-true l c e in rw (lt-ltb l r (omega arith), le-leb l c (omega arith), le-leb c r (omega arith))
-    by_left false e x y = let z = eqb-false l c e in rw (lt-leb l c (omega arith)) (simp and-false)
-
-    go : (a : Bool) → ltb l c ≡ a → (b : Bool) → ltb c r ≡ b → crossing a (eqb l c || eqb r c) b ≡ (ltb l r && (leb l c && leb c r))
-    go true e true d =
-        let x = ltb-true l c e in
-        let y = ltb-true c r d in
-        rw (or-true, lt-ltb l r (omega arith), le-leb l c (omega arith), le-leb c r (omega arith))
-    go true e false d =
-        let x = ltb-true l c e in
-        let y = ltb-false c r d in
-        rw (ne_eqb l c (λ q. omega arith)) (by_right (eqb r c) refl x y)
-    go false e true d =
-        let x = ltb-false l c e in
-        let y = ltb-true c r d in
-        rw (ne_eqb r c (λ q. omega arith)) (by_left (eqb l c) refl x y)
-    go false e false d =
-        let x = ltb-false l c e in
-        let y = ltb-false c r d in
-        rw (and-false, and-false, le-ltb l r (omega arith))
+-- and then it crosses the columns from the one to the other
+pub spans-from : (counted : Bool) (l r c : ℕ) → spans counted l r c ≡ (counts counted l r && within l r c)
+spans-from counted l r c = grind (arith, nat_tests)
 
 -- "A net crosses column c when its leftmost pin is at or left of c, its rightmost at or right of c, and some pin is not in c", where an end
--- that leaves the channel is past every column: its left end is left of its right end, and c lies from the one to the other
-pub crosses-span : (ps : List Pin) (n c : ℕ) → 1 ≤ c → c < 255 → crosses ps n c ≡ spans (leftmost n ps) (rightmost n ps) c
+-- that leaves the channel is past every column: c lies from its left end to its right end, and these differ, or it is a straight wire that
+-- counts
+pub crosses-span : (f : ℕ → Bool) (ps : List Pin) (n c : ℕ) → 1 ≤ c → c < 255
+    → crosses f ps n c ≡ spans (f n) (leftmost n ps) (rightmost n ps) c
 unfolding leftmost rightmost
-crosses-span ps n c h k =
-    rw (crosses-columns ps n c, end_columns min (left_start (kind_of n)) n ps, end_columns max (right_start (kind_of n)) n ps)
-    (crossed-span (kind_of n) (net_columns n ps) c h k)
+crosses-span f ps n c h k =
+    rw (crosses-columns f ps n c, end_columns min (left_start (kind_of n)) n ps, end_columns max (right_start (kind_of n)) n ps)
+    (crossed-span (kind_of n) (f n) (net_columns n ps) c h k)
 
 -- distinct numbers of a list are no more than the list has
 pub length-distinct : (ns : List ℕ) → length (distinct ns) ≤ length ns
@@ -192,14 +157,14 @@ weight-last f (n ∷ ns) = go (any (eqb n) ns) (weight-last f ns)
 
 -- a column's density is a sum over the terminals in their order, top then bottom
 pub column-last : (s : Sheet) (cs : List ℕ) (c : ℕ)
-    → column_density s cs c ≡ sum_last (λ (n : ℕ). crosses (pins (s.top ++ s.bottom) cs) n c) (nets (s.top ++ s.bottom))
+    → column_density s cs c ≡ sum_last (λ (n : ℕ). crosses (straight_in s) (pins (s.top ++ s.bottom) cs) n c) (all_nets s)
 unfolding column_density nets_of
-column-last s cs c = weight-last (λ (n : ℕ). crosses (pins (s.top ++ s.bottom) cs) n c) (nets (s.top ++ s.bottom))
+column-last s cs c = weight-last (λ (n : ℕ). crosses (straight_in s) (pins (s.top ++ s.bottom) cs) n c) (all_nets s)
 
 -- and the density is the greatest of these sums
 pub density-last : (s : Sheet) (cs : List ℕ)
     → density s cs
-    ≡ maximum_to s.columns (λ (c : ℕ). sum_last (λ (n : ℕ). crosses (pins (s.top ++ s.bottom) cs) n c) (nets (s.top ++ s.bottom)))
+    ≡ maximum_to s.columns (λ (c : ℕ). sum_last (λ (n : ℕ). crosses (straight_in s) (pins (s.top ++ s.bottom) cs) n c) (all_nets s))
 unfolding density
 density-last s cs = ap (maximum_to s.columns) (fun_ext (column-last s cs))
 
@@ -212,9 +177,9 @@ maximum_same (suc l) f g h = ap₂ max (h (suc l) (omega arith) (omega arith)) (
 pub density-spans : (s : Sheet) (cs : List ℕ) → s.columns < 255
     → let ps : List Pin = pins (s.top ++ s.bottom) cs in
     density s cs
-    ≡ maximum_to s.columns (λ (c : ℕ). sum_last (λ (n : ℕ). spans (leftmost n ps) (rightmost n ps) c) (nets (s.top ++ s.bottom)))
+    ≡ maximum_to s.columns (λ (c : ℕ). sum_last (λ (n : ℕ). spans (straight_in s n) (leftmost n ps) (rightmost n ps) c) (all_nets s))
 density-spans s cs h =
     let ps : List Pin = pins (s.top ++ s.bottom) cs in
     density-last s cs
     ∙ maximum_same s.columns _ _
-    (λ c p q. ap (λ (f : ℕ → Bool). sum_last f (nets (s.top ++ s.bottom))) (fun_ext (λ n. crosses-span ps n c p (omega arith))))
+    (λ c p q. ap (λ (f : ℕ → Bool). sum_last f (all_nets s)) (fun_ext (λ n. crosses-span (straight_in s) ps n c p (omega arith))))

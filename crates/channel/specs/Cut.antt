@@ -1,20 +1,16 @@
 -- What a word says of a channel's load: how many pins of each side stand at or left of a column, and how many nets cross it then.
 -- A word is written from column L down to column 1, so a word's tail is the part of the channel left of its first letter.
 -- Assumes nothing.
-use Rattle.std.specs.Prelude.{ℕ, suc, pred, max, List, [], ◌∷◌, ◌++◌, map, Bool, cond, ◌||◌, take, drop, eqb}
+use Rattle.std.specs.Prelude.{ℕ, suc, pred, max, List, [], ◌∷◌, ◌++◌, Bool, cond, ◌||◌, take, drop, eqb}
 use Rattle.kind.specs.Kinds.{kind_of}
-use Rattle.channel.specs.Sheet.{Terminal, Sheet}
-use Rattle.channel.specs.Density.{any, crossing_of, weight_of, nets_of}
+use Rattle.channel.specs.Sheet.{Sheet, nets}
+use Rattle.channel.specs.Density.{any, straight_in, crossing_of, weight_of, nets_of}
 use Rattle.channel.specs.Word.{Letter, has_top, has_bottom}
 
--- how many letters of a word f holds of: with hasTop, its top pins
+-- how many letters of a word f holds of: with has_top, its top pins
 abbrev pub count : (Letter → Bool) → List Letter → ℕ
 count f [] = 0
 count f (a ∷ w) = cond (f a) (suc (count f w)) (count f w)
-
--- the nets of one side's terminals, in their order
-abbrev pub nets : List Terminal → List ℕ
-nets = map (λ (t : Terminal). t.net)
 
 -- net n is one of ns
 abbrev pub has : ℕ → List ℕ → Bool
@@ -45,13 +41,14 @@ here_nets s a i j = here_of (has_top a) i (nets s.top) ++ here_of (has_bottom a)
 abbrev pub right_nets : Sheet → ℕ → ℕ → List ℕ
 right_nets s i j = right_of i (nets s.top) ++ right_of j (nets s.bottom)
 
--- a net crosses a column with these nets left of it, in it and right of it
-abbrev pub crosses_cut : ℕ → List ℕ → List ℕ → List ℕ → Bool
-crosses_cut n left here right = crossing_of (kind_of n) (has n left) (has n here) (has n right)
+-- a net crosses a column with these nets left of it, in it and right of it, where f says which are straight wires that count
+abbrev pub crosses_cut : (ℕ → Bool) → ℕ → List ℕ → List ℕ → List ℕ → Bool
+crosses_cut f n left here right = crossing_of (kind_of n) (f n) (has n left) (has n here) (has n right)
 
 -- the load of that column: the weights of the nets that cross it
 unfoldable pub load : Sheet → Letter → ℕ → ℕ → ℕ
-load s a i j = weight_of (λ (n : ℕ). crosses_cut n (left_nets s a i j) (here_nets s a i j) (right_nets s i j)) (nets_of s)
+load s a i j =
+    weight_of (λ (n : ℕ). crosses_cut (straight_in s) n (left_nets s a i j) (here_nets s a i j) (right_nets s i j)) (nets_of s)
 
 -- a column with a pin in it
 abbrev pub occupied : Letter → Bool

@@ -1,4 +1,4 @@
--- When a sheet is another one loosened or lengthened (document 01, "Column, crossing, density").
+-- When a sheet is another one loosened or lengthened (document 01, "Column, crossing, density"; document 02, T-07).
 -- Assumes nothing.
 use Rattle.std.specs.Prelude.{ℕ, ◌+◌, ◌≤◌, ◌≡◌, List, [], ◌∷◌, Bool, true, false, length}
 use Rattle.channel.specs.Sheet.{Terminal, Sheet}
@@ -13,6 +13,10 @@ Alike R is_first [] (u ∷ us) = ⊥
 Alike R is_first (t ∷ ts) [] = ⊥
 Alike R is_first (t ∷ ts) (u ∷ us) = R is_first t u × Alike R false ts us
 
+-- "Loosening and lengthening keep the mark"
+abbrev pub SameMark : Sheet → Sheet → Type 0
+SameMark s t = s.mark ≡ t.mark
+
 -- "each later record's least distance is no greater and its greatest no smaller"
 abbrev pub Wider : Bool → Terminal → Terminal → Type 0
 Wider true t u = Unit {0}
@@ -25,6 +29,7 @@ pub record Looser (is_first : Bool) (t u : Terminal) : Type 0 where
 
 -- "the second is the first loosened"
 pub record Loosened (s t : Sheet) : Type 0 where
+  pub mark : SameMark s t
   pub columns : s.columns ≤ t.columns
   pub top : Alike Looser true s.top t.top
   pub bottom : Alike Looser true s.bottom t.bottom
@@ -45,6 +50,7 @@ pub record BothFree (l m : ℕ) (is_first : Bool) (t u : Terminal) : Type 0 wher
 
 -- "It is the first lengthened"
 pub record Lengthened (s t : Sheet) : Type 0 where
+  pub mark : SameMark s t
   pub columns : s.columns ≤ t.columns
   pub room : length s.top + length s.bottom ≤ s.columns
   pub top : Alike (BothFree s.columns t.columns) true s.top t.top

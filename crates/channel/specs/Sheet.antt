@@ -1,6 +1,7 @@
--- What one channel asks for: its length, and the terminals of its two sides in their fixed orders (document 01, "The sheet").
+-- What one channel asks for: its mark, its length, and the terminals of its two sides in their fixed orders (document 01, "The sheet").
 -- Assumes nothing.
-use Rattle.std.specs.Prelude.{ℕ, ◌≤◌, ◌^◌, ◌≡◌, List, [], ◌∷◌, Bool, true, false, ◌&&◌, length, leb, eqb}
+use Rattle.std.specs.Prelude.{ℕ, ◌≤◌, ◌^◌, ◌≡◌, List, [], ◌∷◌, ◌++◌, map, Bool, true, false, ◌&&◌, length, leb, eqb}
+use Rattle.mark.specs.declared.Mark.{Mark}
 
 -- the two sides of the channel
 pub data Side : Type 0 where
@@ -18,19 +19,28 @@ pub record Terminal : Type 0 where
 abbrev pub no_terminal : Terminal
 no_terminal = record { net = 0; least = 0; greatest = 0; allowed = 0 }
 
--- a sheet as read: the length L of the channel, and each side's terminals
+-- a sheet as read: its mark, the length L of the channel, and each side's terminals
 pub record Sheet : Type 0 where
+  pub mark : Mark
   pub columns : ℕ
   pub top : List Terminal
   pub bottom : List Terminal
 
-abbrev pub sheet_with : ℕ → List Terminal → List Terminal → Sheet
-sheet_with l ts us = record { columns = l; top = ts; bottom = us }
+abbrev pub sheet_with : Mark → ℕ → List Terminal → List Terminal → Sheet
+sheet_with m l ts us = record { mark = m; columns = l; top = ts; bottom = us }
 
 -- the terminals of one side
 abbrev pub terminals : Sheet → Side → List Terminal
 terminals s top = s.top
 terminals s bottom = s.bottom
+
+-- the nets of terminals, in their order
+abbrev pub nets : List Terminal → List ℕ
+nets = map (λ (t : Terminal). t.net)
+
+-- the nets of all terminals of a sheet, top then bottom
+abbrev pub all_nets : Sheet → List ℕ
+all_nets s = nets (s.top ++ s.bottom)
 
 -- a set names a column above l: it has a bit at l or higher
 abbrev pub names_above : ℕ → ℕ → Bool

@@ -1,7 +1,7 @@
 -- How far a net reaches, and a column's density as a loop over the terminals counts it (document 01, "Column, crossing, density";
--- document 02, T-03).
+-- document 02, T-03 and T-07).
 -- Assumes nothing.
-use Rattle.std.specs.Prelude.{ℕ, ◌+◌, min, max, List, [], ◌∷◌, Bool, cond, ◌||◌, ltb, eqb}
+use Rattle.std.specs.Prelude.{ℕ, ◌+◌, min, max, List, [], ◌∷◌, Bool, cond, ◌&&◌, leb, ltb, eqb}
 use Rattle.kind.specs.Kinds.{kind_of, left_start, right_start}
 use Rattle.channel.specs.Density.{any, Pin, crossing, weight}
 
@@ -22,10 +22,18 @@ leftmost n ps = end_from min (left_start (kind_of n)) n ps
 unfoldable pub rightmost : ℕ → List Pin → ℕ
 rightmost n ps = end_from max (right_start (kind_of n)) n ps
 
+-- column c is one of the columns l to r
+abbrev pub within : ℕ → ℕ → ℕ → Bool
+within l r c = leb l c && leb c r
+
 -- a net that reaches from l to r crosses column c: its ends tell what is left of c and right of c, and where nothing is on one of the two
--- sides, whether something stands in c
-abbrev pub spans : ℕ → ℕ → ℕ → Bool
-spans l r c = crossing (ltb l c) (eqb l c || eqb r c) (ltb c r)
+-- sides, an end stands in c if c is one of the columns l to r
+abbrev pub spans : Bool → ℕ → ℕ → ℕ → Bool
+spans counted l r c = crossing counted (ltb l c) (within l r c) (ltb c r)
+
+-- it crosses some column: then it crosses its left end
+abbrev pub counts : Bool → ℕ → ℕ → Bool
+counts counted l r = spans counted l r l
 
 -- the weights of those nets of a list of which f holds, each counted where it occurs last
 abbrev pub sum_last : (ℕ → Bool) → List ℕ → ℕ

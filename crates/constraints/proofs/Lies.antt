@@ -1,13 +1,13 @@
 -- In an assignment of a sound sheet, the list of constraints holds exactly what lies over what. The columns of a side rise, so no two of
 -- its pins share one, and no net is 0: the last bottom pin in a column is its only one, and the net there is 0 exactly where there is none.
 -- Assumes nothing.
-use Rattle.std.proofs.Common.{◌≡◌, ℕ, ◌<◌, ◌≤◌, Bool, true, false, not, cond, ◌&&◌, ◌||◌, eqb, List, [], ◌∷◌, ◌++◌, refl, arith, ne_eqb}
+use Rattle.std.proofs.Common.{◌≡◌, ℕ, ◌<◌, ◌≤◌, Bool, true, false, not, cond, ◌&&◌, ◌||◌, eqb, List, [], ◌∷◌, refl, arith, ne_eqb}
 use Rattle.std.proofs.Math.Bool.{and-false, and-or_distrib_right}
 use Rattle.std.proofs.lemmas.Bool.Decides.{nat_tests}
-use Rattle.channel.specs.Sheet.{Terminal, Sheet, Sound, SoundFrom}
+use Rattle.mark.specs.declared.Mark.{Mark}
+use Rattle.channel.specs.Sheet.{Terminal, Sheet, sheet_with, Sound, SoundFrom, all_nets}
 use Rattle.channel.specs.Assignment.{top_columns, bottom_columns, is_assignment}
 use Rattle.channel.specs.Density.{some_pin, Pin, pins}
-use Rattle.channel.specs.Cut.{nets}
 use Rattle.channel.proofs.Columns.{Rises}
 use Rattle.channel.proofs.Assignments.{fits_rises}
 use Rattle.constraints.specs.declared.Constraint.{Constraint}
@@ -66,4 +66,9 @@ unfolding constraints_of lies_over is_assignment
 lies-listed s sound cs h a b =
     let columns = (fits_rises s sound _ _ h).1 in
     let rise = pins_rise s.columns true 0 s.bottom (bottom_columns s cs) sound.bottom columns in
-    listed-faces (nets (s.top ++ s.bottom)) a b _ _ (λ c. net_at-stands c b 0 _ rise) (pins s.top (top_columns s cs))
+    listed-faces (all_nets s) a b _ _ (λ c. net_at-stands c b 0 _ rise) (pins s.top (top_columns s cs))
+
+-- the mark plays no part in what lies over what
+pub lies-marks : (m k : Mark) (l : ℕ) (ts us : List Terminal) (cs : List ℕ) → lies_over (sheet_with m l ts us) cs ≡ lies_over (sheet_with k l ts us) cs
+unfolding lies_over top_columns bottom_columns
+lies-marks m k l ts us cs = refl

@@ -4,9 +4,9 @@ use Rattle.std.proofs.Common.{◌≡◌, ℕ, List, [], ◌∷◌, length, refl,
 use Rattle.std.proofs.Math.Seq.{take-append_seam, drop-append_seam}
 use Rattle.std.proofs.Math.ListN.{length-map}
 use Rattle.std.proofs.lemmas.List.{map-append}
-use Rattle.channel.specs.Sheet.{Terminal, sheet_with}
+use Rattle.mark.specs.declared.Mark.{Mark}
+use Rattle.channel.specs.Sheet.{Terminal, sheet_with, nets}
 use Rattle.channel.specs.Assignment.{top_columns, bottom_columns}
-use Rattle.channel.specs.Cut.{nets}
 use Rattle.ends.specs.Ends.{pins_of}
 use Rattle.ends.proofs.Pins.{pins-nets}
 use Rattle.constraints.specs.Listed.{net_at, constraints_in, constraints_of}
@@ -19,7 +19,7 @@ pins-end (n ∷ ns) (c ∷ cs) (inl e) = absurd (omega arith)
 pins-end (n ∷ ns) (c ∷ cs) (inr e) = absurd (omega arith)
 
 -- the constraints of a list of nets and columns whose first p are those of the top
-module _ (l : ℕ) (ts us : List Terminal) (cs : List ℕ) where
+module _ (m : Mark) (l : ℕ) (ts us : List Terminal) (cs : List ℕ) where
   abbrev both_nets : List ℕ
   both_nets = nets (ts ++ us)
 
@@ -40,7 +40,7 @@ module _ (l : ℕ) (ts us : List Terminal) (cs : List ℕ) where
       (p : ℕ) → p ≡ length ts
       → constraints_in both_nets (pins_of (take p both_nets) (take p cs))
       (net_at (pins_of (take (length both_nets - p) (drop p both_nets)) (take (length cs - p) (drop p cs))))
-      ≡ constraints_of (sheet_with l ts us) cs
+      ≡ constraints_of (sheet_with m l ts us) cs
   unfolding constraints_of top_columns bottom_columns
   side_by_side p e =
       rw (rest p both_nets, rest p cs, e, top_nets, bottom_nets, pins-nets ts (take (length ts) cs), pins-nets us (drop (length ts) cs))

@@ -1,16 +1,10 @@
 -- Which net lies over which in an assignment (document 02, T-06): the vertical constraints of documents 000 and 002.
 -- Assumes nothing.
-use Rattle.std.specs.Prelude.{ℕ, suc, List, [], ◌∷◌, ◌++◌, Bool, not, cond, ◌&&◌, ◌||◌, eqb}
+use Rattle.std.specs.Prelude.{ℕ, List, Bool, not, ◌&&◌, ◌||◌, eqb}
 use Rattle.kind.specs.Kinds.{kind_of, leaves_left, leaves_right}
-use Rattle.channel.specs.Sheet.{Sheet}
+use Rattle.channel.specs.Sheet.{Sheet, all_nets}
 use Rattle.channel.specs.Assignment.{top_columns, bottom_columns}
-use Rattle.channel.specs.Density.{any, Pin, pins, some_pin}
-use Rattle.channel.specs.Cut.{nets}
-
--- how many pins of net n there are, from the nets of all pins
-abbrev pub pin_count : ℕ → List ℕ → ℕ
-pin_count n [] = 0
-pin_count n (m ∷ ms) = cond (eqb n m) (suc (pin_count n ms)) (pin_count n ms)
+use Rattle.channel.specs.Density.{any, Pin, pins, some_pin, pin_count}
 
 -- "a plain one-pin net"
 abbrev pub alone : List ℕ → ℕ → Bool
@@ -27,4 +21,4 @@ faces tops bottoms a b = any (λ (p : Pin). eqb p.net a && some_pin (λ (k : ℕ
 -- "net a lies over net b when a column has a on top and b below, both different and neither a plain one-pin net"
 unfoldable pub lies_over : Sheet → List ℕ → ℕ → ℕ → Bool
 lies_over s cs a b =
-    faces (pins s.top (top_columns s cs)) (pins s.bottom (bottom_columns s cs)) a b && differ (nets (s.top ++ s.bottom)) a b
+    faces (pins s.top (top_columns s cs)) (pins s.bottom (bottom_columns s cs)) a b && differ (all_nets s) a b

@@ -1,10 +1,9 @@
 -- The vertical constraints of an assignment as a list: of each top pin, what lies under it.
 -- Assumes nothing.
-use Rattle.std.specs.Prelude.{ℕ, List, [], ◌∷◌, ◌++◌, Bool, not, cond, ◌&&◌, eqb}
-use Rattle.channel.specs.Sheet.{Sheet}
+use Rattle.std.specs.Prelude.{ℕ, List, [], ◌∷◌, Bool, not, cond, ◌&&◌, eqb}
+use Rattle.channel.specs.Sheet.{Sheet, all_nets}
 use Rattle.channel.specs.Assignment.{top_columns, bottom_columns}
 use Rattle.channel.specs.Density.{any, Pin, pins}
-use Rattle.channel.specs.Cut.{nets}
 use Rattle.constraints.specs.declared.Constraint.{Constraint}
 use Rattle.constraints.specs.Constraints.{differ}
 
@@ -29,7 +28,7 @@ constraints_in ns (p ∷ ps) below =
 
 unfoldable pub constraints_of : Sheet → List ℕ → List Constraint
 constraints_of s cs =
-    constraints_in (nets (s.top ++ s.bottom)) (pins s.top (top_columns s cs)) (net_at (pins s.bottom (bottom_columns s cs)))
+    constraints_in (all_nets s) (pins s.top (top_columns s cs)) (net_at (pins s.bottom (bottom_columns s cs)))
 
 -- one of them has net a over net b
 abbrev pub listed_over : List Constraint → ℕ → ℕ → Bool

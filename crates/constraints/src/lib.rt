@@ -4,13 +4,14 @@
 ghost use Rattle.std.specs.Prelude.{◌≡◌, ℕ, ◌≤◌, ◌<◌, ◌++◌, length, get_or};
 ghost use Rattle.sheet.specs.Sections.{sheet_held};
 ghost use Rattle.ends.specs.Pins.{pins_in};
-ghost use Rattle.constraints.specs.Constraints.{pin_count, alone};
+ghost use Rattle.constraints.specs.Constraints.{alone};
 ghost use Rattle.constraints.specs.Listed.{net_from, net_at, constrains, constraints_in, constraints_of};
 
 use arrayvec::ArrayVec;
 use ends::PinList;
 use kind::Kind;
 use list::ListedSheet;
+use nets::count_pins;
 
 // One net over another in a column.
 #[derive(Clone, Copy, Default)]
@@ -28,10 +29,12 @@ pub fn list_constraints(listed: ListedSheet, found: &mut ArrayVec<Constraint, 64
     let pins = listed.pins(&mut nets);
     let p = listed.sections.shape.top;
     let top = PinList {
+        mark: pins.mark,
         nets: &pins.nets[..p],
         columns: &pins.columns[..p],
     };
     let bottom = PinList {
+        mark: pins.mark,
         nets: &pins.nets[p..],
         columns: &pins.columns[p..],
     };
@@ -80,16 +83,4 @@ fn is_alone(net: u16, nets: &[u16]) -> bool
         Kind::Plain => count_pins(net, nets) == 1,
         _ => false,
     }
-}
-
-// How many pins a net has. The loop has no branch, so that the compiler can take many pins at a time.
-fn count_pins(net: u16, nets: &[u16]) -> u16
-    requires { length nets.now ≤ 128 }
-    ensures { result ≡ pin_count net nets.now }
-{
-    let mut count = 0;
-    for other in nets {
-        count += u16::from(net == *other);
-    }
-    count
 }

@@ -5,7 +5,8 @@ use Rattle.std.proofs.Math.Bool.{or-false}
 use Rattle.std.proofs.Math.Path.{fun_ext}
 use Rattle.std.proofs.lemmas.Bool.{false≢true}
 use mir.Val.{bool_byte}
-use Rattle.channel.specs.Density.{weight_of, distinct, crossing}
+use Rattle.mark.specs.declared.Mark.{Mark}
+use Rattle.channel.specs.Density.{straight, weight_of, distinct, crossing}
 use Rattle.channel.specs.Word.{Letter, has_top, has_bottom}
 use Rattle.channel.specs.Word.Letter.{top as T, bottom as B, both as TB}
 use Rattle.channel.specs.Cut.{left_of, here_of, right_of, crosses_cut}
@@ -25,7 +26,7 @@ either_side true u v = refl
 either_side false u v = refl
 
 -- a net crosses the column of a cut exactly if its ends say so
-crosses_as_lem : (a : Letter) (tops bottoms : List ℕ) (i j : ℕ)
+crosses_as_lem : (f : ℕ → Bool) (a : Letter) (tops bottoms : List ℕ) (i j : ℕ)
     → length tops ≤ 64
     → length bottoms ≤ 64
     → i ≤ length tops
@@ -33,10 +34,10 @@ crosses_as_lem : (a : Letter) (tops bottoms : List ℕ) (i j : ℕ)
     → (has_top a ≡ true → 1 ≤ i)
     → (has_bottom a ≡ true → 1 ≤ j)
     → (n : ℕ)
-    → crosses_as a (cut_of tops bottoms i j) (places_of tops bottoms n)
-    ≡ crosses_cut n (left_of (has_top a) i tops ++ left_of (has_bottom a) j bottoms) (here_of (has_top a) i tops ++ here_of (has_bottom a) j bottoms)
+    → crosses_as a (cut_of tops bottoms i j) (places_of f tops bottoms n)
+    ≡ crosses_cut f n (left_of (has_top a) i tops ++ left_of (has_bottom a) j bottoms) (here_of (has_top a) i tops ++ here_of (has_bottom a) j bottoms)
     (right_of i tops ++ right_of j bottoms)
-crosses_as_lem a tops bottoms i j p q h k t b n =
+crosses_as_lem f a tops bottoms i j p q h k t b n =
     rw (
       side_left (has_top a) n tops i t (omega arith),
       side_left (has_bottom a) n bottoms j b (omega arith),
@@ -50,17 +51,17 @@ crosses_as_lem a tops bottoms i j p q h k t b n =
 -- one of the three loads: that of letter a
 module _ (pick : Loads → ℕ) (a : Letter) (c : Cut)
     (none : pick (record { top = 0; bottom = 0; both = 0 }) ≡ 0)
-    (more : (l : Loads) (s : NetPlaces) → pick (with_net c l s) ≡ pick l + cond (crosses_as a c s) 1 0) where
+    (more : (l : Loads) (s : NetPlaces) → pick (with_net c l s) ≡ pick l + cond (crosses_as a c s) 1 0) (f : ℕ → Bool) where
   -- over more nets it counts those that cross
   picked : (tops bottoms ns : List ℕ) (l : Loads)
-      → pick (loads_from c l (places_list tops bottoms ns)) ≡ pick l + weight_of (λ (n : ℕ). crosses_as a c (places_of tops bottoms n)) ns
+      → pick (loads_from c l (places_list f tops bottoms ns)) ≡ pick l + weight_of (λ (n : ℕ). crosses_as a c (places_of f tops bottoms n)) ns
   picked tops bottoms [] l = omega arith
   picked tops bottoms (n ∷ ns) l =
-      let s : NetPlaces = places_of tops bottoms n in
+      let s : NetPlaces = places_of f tops bottoms n in
       omega (arith, picked tops bottoms ns (with_net c l s), more l s)
 
   picked_all : (tops bottoms ns : List ℕ)
-      → pick (loads_at (places_list tops bottoms ns) c) ≡ weight_of (λ (n : ℕ). crosses_as a c (places_of tops bottoms n)) ns
+      → pick (loads_at (places_list f tops bottoms ns) c) ≡ weight_of (λ (n : ℕ). crosses_as a c (places_of f tops bottoms n)) ns
   unfolding loads_at
   picked_all tops bottoms ns = omega (arith, picked tops bottoms ns (record { top = 0; bottom = 0; both = 0 }), none)
 
@@ -96,7 +97,7 @@ byte_test false = refl
 -- the loads with a net more, from the three tests of it as the code makes them: a top column has no bottom pin to test
 pub net_more : (c : Cut) (l : Loads) (s : NetPlaces) (x y z : Bool)
     → x
-    ≡ crossing (ltb s.top.first c.top.count || leb s.bottom.first c.bottom.count) (eqb c.top.net s.net)
+    ≡ crossing s.straight (ltb s.top.first c.top.count || leb s.bottom.first c.bottom.count) (eqb c.top.net s.net)
     (ltb c.top.count s.top.last || ltb c.bottom.count s.bottom.last)
     → y ≡ crosses_as B c s
     → z ≡ crosses_as TB c s
@@ -105,30 +106,32 @@ unfolding with_net
 net_more c l s x y z ex ey ez = rw (byte_test x, byte_test y, byte_test z, ex, ey, ez, or-false)
 
 -- what the loop counts for letter a at the cut (i, j), where the column of such a cut has a pin for each pin of the letter
-module _ (tops bottoms : List ℕ) (places : List NetPlaces) (listed : Listed tops bottoms places) (i j : ℕ) (h : i ≤ length tops) (k : j ≤ length bottoms) where
+module _ (m : Mark) (tops bottoms : List ℕ) (places : List NetPlaces) (listed : Listed m tops bottoms places) (i j : ℕ) (h : i ≤ length tops)
+    (k : j ≤ length bottoms) where
   load_at_lem : (pick : Loads → ℕ) (a : Letter)
       → pick (record { top = 0; bottom = 0; both = 0 }) ≡ 0
       → ((l : Loads) (s : NetPlaces) → pick (with_net (cut_of tops bottoms i j) l s)
       ≡ pick l + cond (crosses_as a (cut_of tops bottoms i j) s) 1 0)
       → (has_top a ≡ true → 1 ≤ i)
       → (has_bottom a ≡ true → 1 ≤ j)
-      → pick (loads_at places (cut_of tops bottoms i j)) ≡ load_of tops bottoms a i j
+      → pick (loads_at places (cut_of tops bottoms i j)) ≡ load_of m tops bottoms a i j
   unfolding load_of
   load_at_lem pick a none more t b =
       let c : Cut = cut_of tops bottoms i j in
+      let f : ℕ → Bool = straight m (tops ++ bottoms) in
       let ns : List ℕ = distinct (tops ++ bottoms) in
       ap (λ (xs : List NetPlaces). pick (loads_at xs c)) listed.places
-      ∙ picked_all pick a c none more tops bottoms ns
-      ∙ ap (λ (f : ℕ → Bool). weight_of f ns) (fun_ext (crosses_as_lem a tops bottoms i j listed.top listed.bottom h k t b))
+      ∙ picked_all pick a c none more f tops bottoms ns
+      ∙ ap (λ (g : ℕ → Bool). weight_of g ns) (fun_ext (crosses_as_lem f a tops bottoms i j listed.top listed.bottom h k t b))
 
-  pub top-load : 1 ≤ i → (loads_at places (cut_of tops bottoms i j)).top ≡ load_of tops bottoms T i j
+  pub top-load : 1 ≤ i → (loads_at places (cut_of tops bottoms i j)).top ≡ load_of m tops bottoms T i j
   unfolding with_net
   top-load t = load_at_lem (λ (l : Loads). l.top) T refl (λ l s. refl) (λ e. t) (λ e. absurd (false≢true e))
 
-  pub bottom-load : 1 ≤ j → (loads_at places (cut_of tops bottoms i j)).bottom ≡ load_of tops bottoms B i j
+  pub bottom-load : 1 ≤ j → (loads_at places (cut_of tops bottoms i j)).bottom ≡ load_of m tops bottoms B i j
   unfolding with_net
   bottom-load b = load_at_lem (λ (l : Loads). l.bottom) B refl (λ l s. refl) (λ e. absurd (false≢true e)) (λ e. b)
 
-  pub both-load : 1 ≤ i → 1 ≤ j → (loads_at places (cut_of tops bottoms i j)).both ≡ load_of tops bottoms TB i j
+  pub both-load : 1 ≤ i → 1 ≤ j → (loads_at places (cut_of tops bottoms i j)).both ≡ load_of m tops bottoms TB i j
   unfolding with_net
   both-load t b = load_at_lem (λ (l : Loads). l.both) TB refl (λ l s. refl) (λ e. t) (λ e. b)

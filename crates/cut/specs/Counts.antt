@@ -1,7 +1,8 @@
 -- The loads of one cut, as a loop over the nets' places counts them.
 -- Assumes nothing.
 use Rattle.std.specs.Prelude.{ℕ, ◌+◌, List, [], ◌∷◌, ◌++◌, Bool, cond, ◌&&◌, ◌||◌, get_or, leb, ltb, eqb}
-use Rattle.channel.specs.Density.{crossing, weight, weight_of, distinct}
+use Rattle.mark.specs.declared.Mark.{Mark}
+use Rattle.channel.specs.Density.{straight, crossing, weight, weight_of, distinct}
 use Rattle.channel.specs.Cut.{left_of, here_of, right_of, crosses_cut}
 use Rattle.channel.specs.Word.{Letter, has_top, has_bottom}
 use Rattle.channel.specs.Word.Letter.{top as T, bottom as B, both as TB}
@@ -32,7 +33,7 @@ here_test h s n = h && eqb s.net n
 -- whether a net crosses the column, where it holds letter a
 abbrev pub crosses_as : Letter → Cut → NetPlaces → Bool
 crosses_as a c s =
-    crossing (left_test (has_top a) s.top.first c.top.count || left_test (has_bottom a) s.bottom.first c.bottom.count)
+    crossing s.straight (left_test (has_top a) s.top.first c.top.count || left_test (has_bottom a) s.bottom.first c.bottom.count)
     (here_test (has_top a) c.top s.net || here_test (has_bottom a) c.bottom s.net)
     (ltb c.top.count s.top.last || ltb c.bottom.count s.bottom.last)
 
@@ -62,10 +63,10 @@ possible_loads l i j =
       both = cond (eqb i 0 || eqb j 0) 0 l.both;
     }
 
--- the load of a column, as channel's `load` has it, from the nets of the two sides alone
-unfoldable pub load_of : List ℕ → List ℕ → Letter → ℕ → ℕ → ℕ
-load_of tops bottoms a i j =
+-- the load of a column, as channel's `load` has it, from the mark and the nets of the two sides alone
+unfoldable pub load_of : Mark → List ℕ → List ℕ → Letter → ℕ → ℕ → ℕ
+load_of m tops bottoms a i j =
     weight_of
-    (λ (n : ℕ). crosses_cut n (left_of (has_top a) i tops ++ left_of (has_bottom a) j bottoms)
+    (λ (n : ℕ). crosses_cut (straight m (tops ++ bottoms)) n (left_of (has_top a) i tops ++ left_of (has_bottom a) j bottoms)
     (here_of (has_top a) i tops ++ here_of (has_bottom a) j bottoms) (right_of i tops ++ right_of j bottoms))
     (distinct (tops ++ bottoms))

@@ -33,11 +33,11 @@ pub fn stand_at(ns: &[u16], i: usize) -> Stand
     Stand { count, net }
 }
 
-// Whether a net that reaches left of the column, stands in it and reaches right of it, or not, crosses it.
-fn crosses(left: bool, here: bool, right: bool) -> bool
-    ensures { result ≡ crossing left here right }
+// Whether a net that is a straight wire that counts, reaches left of the column, stands in it and reaches right of it, or not, crosses it.
+fn crosses(straight: bool, left: bool, here: bool, right: bool) -> bool
+    ensures { result ≡ crossing straight left here right }
 {
-    (left | here) & ((here | right) & (left | right))
+    (left | here) & ((here | right) & (straight | (left | right)))
 }
 
 // The loads with one net more.
@@ -46,6 +46,7 @@ fn with_net(c: Cut, l: Loads, s: NetPlaces) -> Loads
     ensures { result ≡ with_net c l s }
 {
     let net = s.net;
+    let straight = s.straight;
     let t_first = s.top.first;
     let t_last = s.top.last;
     let b_first = s.bottom.first;
@@ -55,9 +56,10 @@ fn with_net(c: Cut, l: Loads, s: NetPlaces) -> Loads
     let j = c.bottom.count;
     let b = c.bottom.net;
     let right = (i < t_last) | (j < b_last);
-    let top = crosses((t_first < i) | (b_first <= j), t == net, right);
-    let bottom = crosses((t_first <= i) | (b_first < j), b == net, right);
+    let top = crosses(straight, (t_first < i) | (b_first <= j), t == net, right);
+    let bottom = crosses(straight, (t_first <= i) | (b_first < j), b == net, right);
     let both = crosses(
+        straight,
         (t_first < i) | (b_first < j),
         (t == net) | (b == net),
         right,

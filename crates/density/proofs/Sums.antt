@@ -6,13 +6,14 @@ use Rattle.std.proofs.lemmas.List.{get_or_append_left, get_or-append_right}
 use Rattle.std.proofs.lemmas.List.Sums.{fold-append, sum_by-cons}
 use Rattle.std.specs.List.{sum_by}
 use borrow.Rule.Slice.PartMut.{put_mid}
-use Rattle.channel.specs.Density.{any, distinct, Pin, maximum_to}
+use Rattle.mark.specs.declared.Mark.{Mark}
+use Rattle.channel.specs.Density.{any, distinct, Pin, straight, maximum_to}
 use Rattle.channel.proofs.Spans.{spans-from}
-use Rattle.channel.specs.Spans.{sum_last, leftmost, rightmost}
+use Rattle.channel.specs.Spans.{sum_last, leftmost, rightmost, within, counts}
 use Rattle.ends.specs.declared.Ends.{Ends}
 use Rattle.ends.specs.Ends.{pins_of, ends_of}
 use Rattle.nets.proofs.Lists.{get_or-zeros}
-use Rattle.density.specs.Counted.{net_spans, counted_at, Added, Small, within}
+use Rattle.density.specs.Counted.{net_spans, counted_at, Added, Small}
 
 -- the crossings of a column by the nets of a list, each of which stands there once
 abbrev pub crossings : (ℕ → Bool) → List ℕ → ℕ
@@ -87,39 +88,42 @@ added_all a b before now added c = added c ∙ ap (λ (t : Bool). get_or before 
     last true e = lt-ltb c (b + 1) (omega (arith, leb-true c b e))
     last false e = le-ltb c (b + 1) (omega (arith, leb-false c b e))
 
--- one net is counted where it crosses: from its left end to its right end, if they differ
-module _ (ps : List Pin) (n : ℕ) (ends : Ends) (answer : ends ≡ ends_of n ps) (before : List ℕ) where
-  by_ends : (c : ℕ) → net_spans ps c n ≡ (ltb ends.left ends.right && within ends.left ends.right c)
-  by_ends c = spans-from (leftmost n ps) (rightmost n ps) c ∙ rw answer
+-- one net is counted where it crosses: from its left end to its right end, if it crosses any column
+module _ (f : ℕ → Bool) (ps : List Pin) (n : ℕ) (ends : Ends) (answer : ends ≡ ends_of n ps) (before : List ℕ) where
+  by_ends : (c : ℕ) → net_spans f ps c n ≡ (counts (f n) ends.left ends.right && within ends.left ends.right c)
+  by_ends c = spans-from (f n) (leftmost n ps) (rightmost n ps) c ∙ rw answer
 
   pub counted :
-      (after : List ℕ) → ends.left < ends.right → Added 1 (within ends.left ends.right) before after
-      → Added 1 (λ (c : ℕ). net_spans ps c n) before after
+      (after : List ℕ) → counts (f n) ends.left ends.right ≡ true → Added 1 (within ends.left ends.right) before after
+      → Added 1 (λ (c : ℕ). net_spans f ps c n) before after
   counted after h added c =
-      let inside : net_spans ps c n ≡ within ends.left ends.right c = by_ends c ∙ rw (lt-ltb ends.left ends.right h) in
+      let inside : net_spans f ps c n ≡ within ends.left ends.right c = by_ends c ∙ rw h in
       added c ∙ ap (λ (t : Bool). get_or before c 0 + cond t 1 0) (sym inside)
 
 -- the counts of the nets passed, with those that the nets that are left still add, are the crossings
-abbrev pub Counted : List ℕ → List ℕ → List ℕ → List ℕ → Type 0
-Counted ns cs left counts = (c : ℕ) → get_or counts c 0 + crossings (net_spans (pins_of ns cs) c) left ≡ counted_at ns cs c
+abbrev pub Counted : Mark → List ℕ → List ℕ → List ℕ → List ℕ → Type 0
+Counted m ns cs left counts =
+    (c : ℕ) → get_or counts c 0 + crossings (net_spans (straight m ns) (pins_of ns cs) c) left ≡ counted_at m ns cs c
 
 -- at first every count is 0
-pub counted_none : (ns cs : List ℕ) (n : ℕ) (counts : List ℕ) → counts ≡ replicate n 0 → Counted ns cs (distinct ns) counts
+pub counted_none : (m : Mark) (ns cs : List ℕ) (n : ℕ) (counts : List ℕ) → counts ≡ replicate n 0 → Counted m ns cs (distinct ns) counts
 unfolding counted_at
-counted_none ns cs n counts e c = rw (e, get_or-zeros n c, zero-add) (sym (crossings_once (net_spans (pins_of ns cs) c) ns))
+counted_none m ns cs n counts e c =
+    rw (e, get_or-zeros n c, zero-add) (sym (crossings_once (net_spans (straight m ns) (pins_of ns cs) c) ns))
 
-module _ (ns cs left counts : List ℕ) (so_far : Counted ns cs left counts) where
+module _ (m : Mark) (ns cs left counts : List ℕ) (so_far : Counted m ns cs left counts) where
   -- no count is above the number of terminals
   pub counts_small : length ns ≤ 128 → Small counts
   unfolding counted_at
-  counts_small h c = omega (arith, so_far c, sum_most (net_spans (pins_of ns cs) c) ns)
+  counts_small h c = omega (arith, so_far c, sum_most (net_spans (straight m ns) (pins_of ns cs) c) ns)
 
   -- one net more is counted
   pub counted-more :
-      (n : ℕ) (rest after : List ℕ) → left ≡ n ∷ rest → Added 1 (λ (c : ℕ). net_spans (pins_of ns cs) c n) counts after
-      → Counted ns cs rest after
+      (n : ℕ) (rest after : List ℕ) → left ≡ n ∷ rest → Added 1 (λ (c : ℕ). net_spans (straight m ns) (pins_of ns cs) c n) counts after
+      → Counted m ns cs rest after
   counted-more n rest after e added c =
-      let f : ℕ → ℕ = λ (m : ℕ). cond (net_spans (pins_of ns cs) c m) 1 0 in
-      let here : crossings (net_spans (pins_of ns cs) c) left ≡ f n + crossings (net_spans (pins_of ns cs) c) rest
+      let crossed : ℕ → Bool = net_spans (straight m ns) (pins_of ns cs) c in
+      let f : ℕ → ℕ = λ (k : ℕ). cond (crossed k) 1 0 in
+      let here : crossings crossed left ≡ f n + crossings crossed rest
       = ap (sum_by f) e ∙ sum_by-cons f n rest in
       omega (arith, so_far c, here, added c)

@@ -2,10 +2,11 @@
 #![tactic(auto)]
 
 ghost use Rattle.std.specs.Prelude.{◌≡◌, ℕ, ◌≤◌, ◌<◌, length, get_or, replicate};
-ghost use Rattle.channel.specs.Density.{weight, maximum_to, density};
+ghost use Rattle.channel.specs.Density.{straight, weight, maximum_to, density};
+ghost use Rattle.channel.specs.Spans.{within};
 ghost use Rattle.sheet.specs.Sections.{sheet_held};
 ghost use Rattle.ends.specs.Pins.{pins_in};
-ghost use Rattle.density.specs.Counted.{within, net_spans, Added, Small, counted_at};
+ghost use Rattle.density.specs.Counted.{net_spans, Added, Small, counted_at};
 
 use arrayvec::ArrayVec;
 use ends::PinList;
@@ -26,21 +27,21 @@ pub fn list_density(listed: ListedSheet) -> u32
 // Counts each net once.
 fn count_nets(pins: PinList, counts: &mut [u16; 256])
     requires { (length pins.nets.now ≤ 128) × (counts.old ≡ replicate 256 0) }
-    ensures { (c : ℕ) → get_or counts.new c 0 ≡ counted_at pins.entry.nets.now pins.entry.columns.now c }
+    ensures { (c : ℕ) → get_or counts.new c 0 ≡ counted_at pins.entry.mark pins.entry.nets.now pins.entry.columns.now c }
 {
     for net in (Distinct { left: pins.nets }) {
         count_net(net, pins, counts);
     }
 }
 
-// Adds one net to the columns that it crosses: from its left end to its right end, if they differ.
+// Adds one net to the columns that it crosses: from its left end to its right end, if it crosses any.
 fn count_net(net: u16, pins: PinList, counts: &mut [u16; 256])
-    requires { Small counts.old }
-    ensures { Added (weight net) (λ (c : ℕ). net_spans (pins_in pins.entry) c net)
+    requires { (length pins.nets.now ≤ 128) × Small counts.old }
+    ensures { Added (weight net) (λ (c : ℕ). net_spans (straight pins.entry.mark pins.entry.nets.now) (pins_in pins.entry) c net)
         counts.old counts.new }
 {
     let ends = pins.ends_of(net);
-    if ends.left < ends.right {
+    if pins.counts(net, ends) {
         add_span(counts, ends.left as usize, ends.right as usize);
     }
 }

@@ -1,10 +1,11 @@
 // The sheets that are tried. The first are all small sheets with full sets, ranges 1 to 255 and at most three
-// nets; the others are drawn.
+// nets; the others are drawn. The mark of each is drawn.
 ghost use Rattle.std.specs.Prelude.{◌≤◌};
 
 use crate::draws::{bits, draw};
 use enumeration::{ROOM, Sheet};
 use fixtures::{Page, Plan, full_set};
+use mark::Mark;
 use std::ops::RangeInclusive;
 use terminal::Record;
 
@@ -42,6 +43,7 @@ pub fn plan_of(n: u64) -> Plan {
             top: (n / 4 % 4) as u8,
             bottom: (n / 16 % 4) as u8,
             bottom_first: n / 64 % 2 == 1,
+            mark: drawn_mark(n),
         };
     }
     Plan {
@@ -49,6 +51,14 @@ pub fn plan_of(n: u64) -> Plan {
         top: drawn_pins(n, 1),
         bottom: drawn_pins(n, 2),
         bottom_first: draw(n, 3, 0, 0..=1) == 1,
+        mark: drawn_mark(n),
+    }
+}
+
+fn drawn_mark(n: u64) -> Mark {
+    match draw(n, 6, 0, 0..=1) {
+        0 => Mark::Cp,
+        _ => Mark::Cq,
     }
 }
 
@@ -84,6 +94,7 @@ pub fn sheet_of(n: u64, plan: Plan) -> Sheet {
         columns: plan.columns,
         top: plan.top,
         bottom: plan.bottom,
+        mark: plan.mark,
         records,
     }
 }
@@ -123,14 +134,23 @@ impl Pin {
         }
     }
 
-    // One to five nets.
+    // One to five nets. On one drawn sheet of four, pins of one place have one net, so that straight wires are frequent.
     fn net(self, digits: u64) -> u16 {
         let k = if self.n < REGULAR {
             (digits % 3) as u8
+        } else if draw(self.n, 27, 0, 0..=3) == 0 {
+            self.place()
         } else {
             self.draw(7, 0..=draw(self.n, 8, 0, 0..=4))
         };
         net_of(self.n, k)
+    }
+
+    // The place on its side, from 0.
+    fn place(self) -> u8 {
+        let p = self.plan.top as usize;
+        let place = if self.t < p { self.t } else { self.t - p };
+        (place % ROOM) as u8
     }
 
     // Mostly one kind for the whole sheet.

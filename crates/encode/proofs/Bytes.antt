@@ -2,6 +2,7 @@
 -- Assumes nothing.
 use Rattle.std.proofs.Common.{◌≡◌, ℕ, zero, suc, ◌+◌, ◌*◌, ◌/◌, ◌%◌, ◌^◌, ◌<◌, List, [], ◌∷◌, ◌++◌, length, sym, refl, ap, ◌∙◌, ap₂, append-nil, add_assoc, div-lt_iff_lt-mul, pow-suc, arith, get_or-append-add}
 use Rattle.std.proofs.Math.Nat.{mod-add-div, mul-div_right}
+use Rattle.mark.specs.declared.Mark.{Mark}
 use Rattle.channel.specs.Sheet.{Terminal}
 use Rattle.little.specs.Little.{little}
 use Rattle.trailer.specs.declared.Trailer.{Trailer}
@@ -91,9 +92,9 @@ section-from (t ∷ ts) b h =
     (terminals_behind_lem (record_bytes t) (section_bytes ts ++ b) (length ts) 0 ∙ section-from ts b h.1)
 
 -- the trailer
-module _ (t : Trailer) (mark : List ℕ) (at : t.top.at < 65536) (p : t.top.count < 65536) (below : t.bottom.at < 65536)
+module _ (t : Trailer) (m : Mark) (at : t.top.at < 65536) (p : t.top.count < 65536) (below : t.bottom.at < 65536)
     (q : t.bottom.count < 65536) (l : t.columns < 65536) where
-  pub trailer_read : trailer_at (trailer_bytes t mark) 0 ≡ t
+  pub trailer_read : trailer_at (trailer_bytes t m) 0 ≡ t
   unfolding little
   trailer_read =
       rw (

@@ -1,6 +1,7 @@
 -- How long a sheet's numbers, records, sections and trailer are as bytes, and records behind others.
 -- Assumes nothing.
 use Rattle.std.proofs.Common.{◌≡◌, ℕ, zero, suc, ◌+◌, ◌*◌, ◌/◌, List, [], ◌∷◌, ◌++◌, length, sym, refl, ap, ◌∙◌, append_assoc, arith, length-append}
+use Rattle.mark.proofs.Marks.{two_letters}
 use Rattle.channel.specs.Sheet.{Terminal, Sheet}
 use Rattle.format.specs.Format.{record_size}
 use Rattle.encode.specs.Encode.{bytes, record_bytes, section_bytes, sections_bytes, trailer_bytes, top_first, sheet_bytes, sheet_size}
@@ -26,8 +27,8 @@ length_sections s =
 
 -- the sections, ten bytes of numbers, the mark
 pub length-sheet :
-    (mark : List ℕ) (s : Sheet) → length mark ≡ 2 → length (sheet_bytes mark s) ≡ sheet_size (length s.top) (length s.bottom)
+    (s : Sheet) → length (sheet_bytes s) ≡ sheet_size (length s.top) (length s.bottom)
 unfolding sheet_bytes
-length-sheet mark s two =
-    let last = trailer_bytes (top_first s.columns (length s.top) (length s.bottom)) mark in
-    omega (arith, length-append (sections_bytes s) last, length_sections s, two)
+length-sheet s =
+    let last = trailer_bytes (top_first s.columns (length s.top) (length s.bottom)) s.mark in
+    omega (arith, length-append (sections_bytes s) last, length_sections s, two_letters s.mark)

@@ -1,6 +1,8 @@
 -- A sheet as bytes (document 01, "The sheet"): the top section, the bottom section, then the trailer, which ends in the mark.
 -- Assumes nothing.
 use Rattle.std.specs.Prelude.{ℕ, zero, suc, ◌+◌, ◌*◌, ◌/◌, ◌%◌, ◌^◌, ◌<◌, List, [], ◌∷◌, ◌++◌, length}
+use Rattle.mark.specs.declared.Mark.{Mark}
+use Rattle.mark.specs.Marks.{letters}
 use Rattle.channel.specs.Sheet.{Terminal, Sheet}
 use Rattle.trailer.specs.declared.Part.{Part}
 use Rattle.trailer.specs.declared.Trailer.{Trailer}
@@ -26,8 +28,8 @@ abbrev pub part_bytes : Part → List ℕ
 part_bytes part = bytes 2 part.at ++ bytes 2 part.count
 
 -- "Trailer: .. length L (2)", then the mark
-abbrev pub trailer_bytes : Trailer → List ℕ → List ℕ
-trailer_bytes t mark = part_bytes t.top ++ part_bytes t.bottom ++ bytes 2 t.columns ++ mark
+abbrev pub trailer_bytes : Trailer → Mark → List ℕ
+trailer_bytes t m = part_bytes t.top ++ part_bytes t.bottom ++ bytes 2 t.columns ++ letters m
 
 -- "top at 0 with bottom at 12p"
 abbrev pub top_first : ℕ → ℕ → ℕ → Trailer
@@ -37,9 +39,9 @@ top_first l p q = record { top = record { at = 0; count = p }; bottom = record {
 abbrev pub sections_bytes : Sheet → List ℕ
 sections_bytes s = section_bytes s.top ++ section_bytes s.bottom
 
--- a sheet with this mark
-unfoldable pub sheet_bytes : List ℕ → Sheet → List ℕ
-sheet_bytes mark s = sections_bytes s ++ trailer_bytes (top_first s.columns (length s.top) (length s.bottom)) mark
+-- a sheet
+unfoldable pub sheet_bytes : Sheet → List ℕ
+sheet_bytes s = sections_bytes s ++ trailer_bytes (top_first s.columns (length s.top) (length s.bottom)) s.mark
 
 -- "file length 12(p+q)+12"
 abbrev pub sheet_size : ℕ → ℕ → ℕ

@@ -1,12 +1,13 @@
 // A sheet's numbers, records and trailer, written into a buffer.
 #![tactic(auto)]
 
-ghost use Rattle.std.specs.Prelude.{◌+◌, length};
 ghost use Rattle.text.specs.Writing.{HasRoom, Writes};
 ghost use Rattle.terminal.specs.Terminal.{terminal_of};
+ghost use Rattle.trailer.specs.Trailer.{trailer_size};
 ghost use Rattle.format.specs.Format.{record_size};
 ghost use Rattle.encode.specs.Encode.{bytes, record_bytes, part_bytes, trailer_bytes};
 
+use mark::Mark;
 use terminal::Record;
 use text::Writer;
 use trailer::{Part, Trailer};
@@ -44,12 +45,12 @@ fn put_part(out: &mut Writer, part: Part)
 }
 
 // The trailer, with the mark at its end.
-pub fn put_trailer(out: &mut Writer, t: Trailer, mark: &[u8])
-    requires { HasRoom out.old (10 + length mark.now) }
-    ensures { Writes out.old out.new (trailer_bytes t mark.now) }
+pub fn put_trailer(out: &mut Writer, t: Trailer, mark: Mark)
+    requires { HasRoom out.old trailer_size }
+    ensures { Writes out.old out.new (trailer_bytes t mark) }
 {
     put_part(out, t.top);
     put_part(out, t.bottom);
     put_number(out, 2, t.columns as u64);
-    out.put_text(mark);
+    out.put_text(mark.letters());
 }

@@ -1,9 +1,8 @@
 -- The pins of terminals are those of their nets.
 -- Assumes nothing.
 use Rattle.std.proofs.Common.{◌≡◌, ℕ, List, [], ◌∷◌, refl, ap}
-use Rattle.channel.specs.Sheet.{Terminal}
+use Rattle.channel.specs.Sheet.{Terminal, nets}
 use Rattle.channel.specs.Density.{Pin, pins}
-use Rattle.channel.specs.Cut.{nets}
 use Rattle.ends.specs.Ends.{pins_of}
 
 pub pins-nets : (ts : List Terminal) (cs : List ℕ) → pins ts cs ≡ pins_of (nets ts) cs

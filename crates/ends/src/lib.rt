@@ -1,9 +1,11 @@
 // How far each net reaches in a column list.
 #![tactic(auto)]
 
-ghost use Rattle.std.specs.Prelude.{◌≡◌, length};
+ghost use Rattle.std.specs.Prelude.{◌≡◌, ◌≤◌, length};
 
 use kind::Kind;
+use mark::Mark;
+use nets::is_straight;
 
 // The columns of a net's leftmost and rightmost pins; 0 and 255 where it leaves by that end.
 #[derive(Clone, Copy)]
@@ -12,16 +14,19 @@ pub struct Ends {
     pub right: u8,
 }
 
-// The pins of a column list: the net and the column of each. That they are at most 128 is asked where it is needed, as `ends_of` takes any
-// number.
+// The pins of a column list: the mark of their sheet, and the net and the column of each. That they are at most 128 is asked where it is
+// needed, as `ends_of` takes any number.
 #[derive(Clone, Copy)]
 pub struct PinList<'a> {
+    pub mark: Mark,
     pub nets: &'a [u16],
     pub columns: &'a [u8],
     ghost paired: { length nets.now ≡ length columns.now },
 }
 
 impl<'a> PinList<'a> {
+    ghost use Rattle.channel.specs.Density.{straight};
+    ghost use Rattle.channel.specs.Spans.{counts};
     ghost use Rattle.ends.specs.Ends.{ends_of};
     ghost use Rattle.ends.specs.Pins.{pins_in};
 
@@ -41,5 +46,14 @@ impl<'a> PinList<'a> {
             right = right.max(if own { column } else { 0 });
         }
         Ends { left, right }
+    }
+
+    // Whether a net with these ends crosses any column: they differ, or it is a straight wire that counts.
+    pub fn counts(self, net: u16, ends: Ends) -> bool
+        requires { length self.nets.now ≤ 128 }
+        ensures { result ≡ counts (straight self.entry.mark self.entry.nets.now net) ends.left ends.right }
+    {
+        ends.left < ends.right
+            || (ends.left == ends.right && is_straight(self.mark, net, self.nets))
     }
 }

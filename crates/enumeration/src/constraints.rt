@@ -14,7 +14,7 @@ impl Pins<'_> {
 
     // Whether a net is a plain one with one pin.
     pub fn is_left_out(self, net: u16) -> bool {
-        !leaves(net).any() && self.sheet.has_one_pin(net)
+        !leaves(net).any() && self.sheet.count_pins(net) == 1
     }
 
     // Whether some column has a pin of one net on top and one of the other below: each top pin is held against each bottom pin.

@@ -1,5 +1,6 @@
 // The density of a list: the most nets that cross a column.
 use crate::Pins;
+use mark::Mark;
 
 // By which ends of the channel a net leaves.
 #[derive(Clone, Copy, Debug, Default, PartialEq, Eq)]
@@ -24,7 +25,7 @@ pub fn leaves(net: u16) -> Ends {
 
 impl Pins<'_> {
     // Whether a net crosses column c: a pin at or left of c, one at or right of it, and one that is not in it. A net that leaves has a
-    // pin beyond the end.
+    // pin beyond the end. A straight wire that counts needs no pin beside c.
     pub fn crosses(self, net: u16, c: u8) -> bool {
         let ends = leaves(net);
         let mut left = ends.left;
@@ -37,7 +38,28 @@ impl Pins<'_> {
                 beside |= *column != c;
             }
         }
-        left && right && beside
+        left && right && (beside || self.is_straight_in(net, c))
+    }
+
+    // Whether a net is a straight wire that counts in column c: the sheet's mark is CQ, and the net is plain and has two pins, both in c.
+    fn is_straight_in(self, net: u16, c: u8) -> bool {
+        self.sheet.mark == Mark::Cq
+            && !leaves(net).any()
+            && self.sheet.count_pins(net) == 2
+            && self.count_pins_in(net, c) == 2
+    }
+
+    // How many pins a net has in a column.
+    fn count_pins_in(self, net: u16, c: u8) -> usize {
+        let pins = self.sheet.terminals().iter().zip(self.list);
+        let inside = pins.filter(|(terminal, column)| terminal.net == net && **column == c);
+        inside.count()
+    }
+
+    // Whether some net is a straight wire that counts.
+    pub fn have_straight_wire(self) -> bool {
+        let nets = self.sheet.nets();
+        (1..=self.sheet.columns).any(|c| nets.iter().any(|net| self.is_straight_in(*net, c)))
     }
 
     pub fn density(self) -> usize {

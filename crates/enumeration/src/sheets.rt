@@ -2,6 +2,7 @@
 ghost use Rattle.std.specs.Prelude.{◌≤◌, length};
 
 use arrayvec::ArrayVec;
+use mark::Mark;
 use terminal::Record;
 
 // The most terminals of a sheet, and the most columns of a list.
@@ -12,12 +13,14 @@ pub type List = [u8; ROOM];
 
 pub type Nets = ArrayVec<u16, ROOM>;
 
-// L, p, q, and the terminals, top before bottom, of which p and q say how many: an `ArrayVec` could not be copied, as a sheet is.
+// L, p, q, the mark, and the terminals, top before bottom, of which p and q say how many: an `ArrayVec` could not be copied, as a sheet
+// is.
 #[derive(Clone, Copy)]
 pub struct Sheet {
     pub columns: u8,
     pub top: u8,
     pub bottom: u8,
+    pub mark: Mark,
     pub records: [Record; ROOM],
 }
 
@@ -47,13 +50,13 @@ impl Sheet {
         nets
     }
 
-    // Whether a net has one pin and no more.
-    pub fn has_one_pin(&self, net: u16) -> bool {
+    // How many pins a net has.
+    pub fn count_pins(&self, net: u16) -> usize {
         let pins = self
             .terminals()
             .iter()
             .filter(|terminal| terminal.net == net);
-        pins.count() == 1
+        pins.count()
     }
 }
 

@@ -81,14 +81,17 @@ impl<'a> Trial<'a> {
         }
     }
 
+    fn pins(&self) -> Pins<'_> {
+        Pins {
+            sheet: &self.case.sheet,
+            list: &self.list,
+        }
+    }
+
     // What is to be answered, by the program's own reading, with the refusals in the order of the rules. The density of the best list is
     // the one that the exhaustive search found.
     fn expected(&self) -> Answer {
         let case = self.case;
-        let pins = Pins {
-            sheet: &case.sheet,
-            list: &self.list,
-        };
         match self.kind {
             Kind::Best if let Some(best) = case.best => return Ok(best.density),
             Kind::Cut => return Err(ListRefusal::Sheet(case.cut_refusal())),
@@ -97,6 +100,7 @@ impl<'a> Trial<'a> {
         if self.lend().columns.len() != case.sheet.pins() {
             return Err(ListRefusal::Count);
         }
+        let pins = self.pins();
         if !all_allowed(pins) {
             return Err(ListRefusal::Allowed);
         }
@@ -153,6 +157,7 @@ fn measure_one<W: Write>(out: &mut W, kind: Kind, case: &Case) -> io::Result<Tal
     };
     Ok(Tally {
         assignments: wanted.is_ok() as u64,
+        straight: (wanted.is_ok() && trial.pins().have_straight_wire()) as u64,
         short: (amount < 0) as u64,
         long: (amount > 0) as u64,
         wrong: wrong as u64,

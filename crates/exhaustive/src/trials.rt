@@ -7,6 +7,7 @@ use buffers::first;
 use drawn::draw;
 use enumeration::{Best, Sheet};
 use fixtures::{Page, but_last};
+use mark::Mark;
 use printing::Found;
 use refusals::Refusal;
 use searched::SearchRefusal;
@@ -186,6 +187,7 @@ pub fn try_sheet<W: Write>(shared: &mut Shared<W>, n: u64, shown: bool) -> io::R
         .iter()
         .map(|terminal| enumeration::leaves(terminal.net));
     Ok(Tally {
+        cq: (sheet.mark == Mark::Cq) as u64,
         leaving: nets.any(|ends| ends.any()) as u64,
         found: best.is_some() as u64,
         tied: best.is_some_and(|best| best.tied) as u64,

@@ -1,13 +1,14 @@
 -- What 1 to 5 leave: the numbers of the trailer are within their limits, and both sections lie in the file.
 -- Assumes nothing.
-use Rattle.std.proofs.Common.{◌≡◌, ℕ, ◌+◌, ◌*◌, ◌<◌, ◌≤◌, Bool, true, false, not, ◌||◌, eqb, ltb, List, length, Ok, refl, arith, ltb-false, eqb-true}
+use Rattle.std.proofs.Common.{◌≡◌, ℕ, ◌+◌, ◌*◌, ◌<◌, ◌≤◌, Bool, true, false, ◌||◌, eqb, ltb, List, length, Ok, Some, is_none, refl, arith, ltb-false, eqb-true}
 use Rattle.std.proofs.Math.Bool.{and-eq-true_iff}
 use Rattle.std.proofs.lemmas.Bool.{or_parts, eqb-false, not-false}
 use Rattle.refusals.specs.declared.Refusal.TheVariants.{Short, Mark, Length, Count, Layout}
 use Rattle.refusals.specs.Refusals.{refuse}
 use Rattle.refusals.proofs.Refused.{or_else_sound, refuse-sound}
 use Rattle.trailer.specs.declared.Part.{Part}
-use Rattle.trailer.specs.Trailer.{trailer_size, trailer_of, has_mark, CP}
+use Rattle.trailer.specs.Trailer.{trailer_size, trailer_of, mark_of, mark_or_CP}
+use Rattle.trailer.proofs.Marks.{mark_some}
 use Rattle.channel.specs.declared.Side.{Side}
 use Rattle.channel.specs.declared.Side.TheVariants.{Top, Bottom}
 use Rattle.format.specs.Format.{record_size, part_of}
@@ -42,9 +43,11 @@ laid_out_room top bottom len h =
         let (b, t) = follows_room bottom top len (omega arith) either in
         (t, b)
 
--- what 1 to 5 leave of the trailer: its bytes are there, its numbers are within their limits, and both sections lie in the file
+-- what 1 to 5 leave of the trailer: its bytes are there, the mark is the one that its letters say, its numbers are within their limits, and
+-- both sections lie in the file
 pub record Formed (b : List ℕ) : Type 0 where
   pub long : trailer_size ≤ length b
+  pub mark : mark_of b ≡ Some (mark_or_CP b)
   pub columns : (0 < (trailer_of b).columns) × ((trailer_of b).columns ≤ 64)
   pub count : (side : Side) → (part_of (trailer_of b) side).count ≤ 64
   pub room : (side : Side) → (part_of (trailer_of b) side).at + record_size * (part_of (trailer_of b) side).count ≤ length b
@@ -54,7 +57,7 @@ unfolding form_of trailer_check
 formed b h =
     let t = trailer_of b in
     let (short, h₂) = or_else_sound (refuse (ltb (length b) trailer_size) Short) _ h in
-    let (mark, h₃) = or_else_sound (refuse (not (has_mark b CP)) Mark) _ h₂ in
+    let (mark, h₃) = or_else_sound (refuse (is_none (mark_of b)) Mark) _ h₂ in
     let (columns, h₄) = or_else_sound (refuse (eqb t.columns 0 || ltb 64 t.columns) Length) _ h₃ in
     let (counts, layout) = or_else_sound (refuse (ltb 64 t.top.count || ltb 64 t.bottom.count) Count) _ h₄ in
     let (c₁, c₂) = or_parts (eqb t.columns 0) (ltb 64 t.columns) (refuse-sound _ Length columns) in
@@ -63,6 +66,7 @@ formed b h =
     let positive : t.columns ≡ 0 → ⊥ = eqb-false t.columns 0 c₁ in
     record {
       long = ltb-false (length b) trailer_size (refuse-sound _ Short short);
+      mark = mark_some b (refuse-sound _ Mark mark);
       columns = (omega (arith, positive), ltb-false 64 t.columns c₂);
       count = elim [ Top ↦ ltb-false 64 t.top.count p | Bottom ↦ ltb-false 64 t.bottom.count q ];
       room = elim [ Top ↦ top | Bottom ↦ bottom ];

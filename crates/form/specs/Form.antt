@@ -1,11 +1,11 @@
 -- The form of a sheet's bytes: refusals 1 to 5 (document 01, "The sheet" and "The refusal list").
 -- Assumes nothing.
-use Rattle.std.specs.Prelude.{ℕ, ◌+◌, ◌*◌, List, Bool, not, ◌&&◌, ◌||◌, length, ltb, eqb, Result}
+use Rattle.std.specs.Prelude.{ℕ, ◌+◌, ◌*◌, List, Bool, not, ◌&&◌, ◌||◌, length, ltb, eqb, Result, is_none}
 use Rattle.refusals.specs.declared.Refusal.TheVariants.{Short, Mark, Length, Count, Layout}
 use Rattle.refusals.specs.Refusals.{refuse, ◌or_else◌}
 use Rattle.trailer.specs.declared.Part.{Part}
 use Rattle.trailer.specs.declared.Trailer.{Trailer}
-use Rattle.trailer.specs.Trailer.{trailer_size, has_mark, CP, trailer_of}
+use Rattle.trailer.specs.Trailer.{trailer_size, mark_of, trailer_of}
 use Rattle.refusals.specs.declared.Refusal.{Refusal}
 use Rattle.format.specs.Format.{record_size}
 
@@ -30,5 +30,5 @@ trailer_check t len =
 unfoldable pub form_of : List ℕ → Result Unit Refusal
 form_of b =
     refuse (ltb (length b) trailer_size) Short
-    or_else refuse (not (has_mark b CP)) Mark
+    or_else refuse (is_none (mark_of b)) Mark
     or_else trailer_check (trailer_of b) (length b)

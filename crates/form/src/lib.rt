@@ -6,7 +6,7 @@ ghost use Rattle.form.specs.Form.{form_of, trailer_check, follows, laid_out};
 
 use format::RECORD;
 use refusals::{Checked, Refusal};
-use trailer::{Part, TRAILER, Trailer, has_mark, read_trailer};
+use trailer::{Part, TRAILER, Trailer, read_mark, read_trailer};
 
 // 1 to 5 in turn: the file's length, its mark and its trailer.
 #[tactic(auto, unfolding(crate::specs::Form::form_of))]
@@ -16,7 +16,7 @@ pub fn check_form(s: &[u8]) -> Checked
     if s.len() < TRAILER {
         return Err(Refusal::Short);
     }
-    if !has_mark(s, b"CP") {
+    if read_mark(s).is_none() {
         return Err(Refusal::Mark);
     }
     check_trailer(read_trailer(s), s.len())

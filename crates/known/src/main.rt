@@ -38,7 +38,12 @@ fn measure<W: Write>(out: &mut W, s: &[u8], command: Command) -> io::Result<()> 
     let [a, b, c, d, _, _] = command.numbers;
     let list = [a, b, c, d].map(low);
     let measured = Measurement(measure::measure(s, &list));
-    writeln!(out, "A measured at{}: {measured}", Columns(&list))
+    writeln!(
+        out,
+        "{} measured at{}: {measured}",
+        command.name,
+        Columns(&list)
+    )
 }
 
 // Does what a command asks of the sheet.

@@ -1,11 +1,14 @@
 -- A net's ends in the channel: how far it reaches, cut to columns 1 to l. Its interval says which of these columns it crosses.
 -- Assumes nothing.
-use Rattle.std.proofs.Common.{◌≡◌, ℕ, ◌<◌, ◌≤◌, min, max, Bool, true, false, cond, ◌&&◌, ◌||◌, eqb, ltb, leb, List, [], ◌∷◌, sym, refl, ◌∙◌, true≢false, arith, ltb-false, ltb-true, le-ltb, le-leb, leb-false, leb-true}
+use Rattle.std.proofs.Common.{◌≡◌, ℕ, ◌<◌, ◌≤◌, min, max, Bool, true, false, cond, ◌&&◌, ◌||◌, eqb, ltb, leb, List, [], ◌∷◌, sym, refl, ◌∙◌, true≢false, arith, ltb-false, ltb-true}
+use Rattle.std.proofs.Math.Bool.{and-false}
+use Rattle.std.proofs.lemmas.Bool.{and_parts}
+use Rattle.std.proofs.lemmas.Bool.Decides.{nat_tests}
 use Rattle.kind.specs.Kinds.{kind_of, leaves_left, leaves_right, left_start, right_start}
 use Rattle.channel.specs.Sheet.{Terminal}
 use Rattle.channel.specs.Density.{any, Pin, pins, some_pin, crossing, crosses}
-use Rattle.channel.specs.Spans.{end_from, leftmost, rightmost}
-use Rattle.channel.proofs.Spans.{crosses-span, spans-from}
+use Rattle.channel.specs.Spans.{end_from, leftmost, rightmost, counts}
+use Rattle.channel.proofs.Spans.{crosses-span}
 use Rattle.left_edge.specs.Lists.{Each}
 use Rattle.left_edge.specs.Spans.{left_end, right_end, interval_of}
 use Rattle.left_edge.proofs.Method.{Fits}
@@ -38,14 +41,16 @@ end_holds l P pick f start n (p ∷ ps) h k =
     go true = f start p.column k h.0
     go false = k
 
--- a net with a pin has its leftmost in the channel
-end_stands : (l start n : ℕ) (ps : List Pin) → PinsInside l ps → stands n ps ≡ true → end_from min start n ps ≤ l
-end_stands l start n [] h k = absurd (true≢false (sym k))
-end_stands l start n (p ∷ ps) h k = go (eqb p.net n) k (λ s. end_stands l s n ps h.1)
+-- what holds of each pick of a pin's column holds of the end of a net that has a pin
+end_stands :
+    (l : ℕ) (P : ℕ → Type 0) (pick : ℕ → ℕ → ℕ) → ((i j : ℕ) → Inside l j → P (pick i j)) → (start n : ℕ) (ps : List Pin)
+    → PinsInside l ps → stands n ps ≡ true → P (end_from pick start n ps)
+end_stands l P pick f start n [] h k = absurd (true≢false (sym k))
+end_stands l P pick f start n (p ∷ ps) h k = go (eqb p.net n) k (λ s. end_stands l P pick f s n ps h.1)
   where
-    go : (b : Bool) → (b || stands n ps) ≡ true → ((s : ℕ) → stands n ps ≡ true → end_from min s n ps ≤ l)
-        → end_from min (cond b (min start p.column) start) n ps ≤ l
-    go true k r = end_holds l (λ (c : ℕ). c ≤ l) min (λ i j a b. omega arith) (min start p.column) n ps h.1 (omega arith)
+    go : (b : Bool) → (b || stands n ps) ≡ true → ((s : ℕ) → stands n ps ≡ true → P (end_from pick s n ps))
+        → P (end_from pick (cond b (pick start p.column) start) n ps)
+    go true k r = end_holds l P pick (λ i j a. f i j) (pick start p.column) n ps h.1 (f start p.column h.0)
     go false k r = r start k
 
 -- one without a pin has none that passes a test
@@ -57,16 +62,6 @@ no_pin f n (p ∷ ps) h = go (eqb p.net n) h (no_pin f n ps)
         → (b && f p.column || some_pin f n ps) ≡ false
     go true h r = absurd (true≢false h)
     go false h r = r h
-
--- two orders that hold together have the same test
-leb_same : (a b c d : ℕ) → (a ≤ b → c ≤ d) → (c ≤ d → a ≤ b) → leb a b ≡ leb c d
-leb_same a b c d f g = go (leb a b) refl (leb c d) refl
-  where
-    go : (x : Bool) → leb a b ≡ x → (y : Bool) → leb c d ≡ y → x ≡ y
-    go true p true q = refl
-    go true p false q = absurd (omega (arith, f (leb-true a b p), leb-false c d q))
-    go false p true q = absurd (omega (arith, g (leb-true c d q), leb-false a b p))
-    go false p false q = refl
 
 module _ (l : ℕ) (first : 1 ≤ l) (short : l < 255) (ps : List Pin) (inside : PinsInside l ps) (n : ℕ) where
   pub left_end_lem : left_end ps n ≡ max 1 (leftmost n ps)
@@ -105,72 +100,68 @@ module _ (l : ℕ) (first : 1 ≤ l) (short : l < 255) (ps : List Pin) (inside :
       go true = omega arith
       go false = omega arith
 
+  -- a net with a pin reaches into the channel, from either side
+  ends_stand : stands n ps ≡ true → (leftmost n ps ≤ l) × (1 ≤ rightmost n ps)
+  unfolding leftmost rightmost
+  ends_stand h = (
+    end_stands l (λ (c : ℕ). c ≤ l) min (λ i j a. omega arith) (left_start (kind_of n)) n ps inside h,
+    end_stands l (λ (c : ℕ). 1 ≤ c) max (λ i j a. omega arith) (right_start (kind_of n)) n ps inside h,
+  )
+
   -- what code needs to pack the ends
   pub end_bounds : (1 ≤ left_end ps n) × (left_end ps n ≤ 255) × (right_end l ps n ≤ l) × (stands n ps ≡ true → left_end ps n ≤ l)
-  unfolding leftmost
   end_bounds =
       let (most, column) = leftmost_inside in (
         omega (arith, left_end_lem),
         omega (arith, left_end_lem),
         omega (arith, right_end_lem),
-        λ h. omega (arith, left_end_lem, end_stands l (left_start (kind_of n)) n ps inside h),
+        λ h. omega (arith, left_end_lem, ends_stand h),
       )
 
-  -- a net that reaches nothing has no pin and does not leave at the left: it crosses no column
-  nowhere : 255 ≤ leftmost n ps → (c : ℕ) → crosses ps n c ≡ false
-  unfolding crosses leftmost
-  nowhere h c = go (leaves_left (kind_of n)) h (stands n ps) refl
-    where
-      go : (b : Bool) → 255 ≤ end_from min (cond b 0 255) n ps → (s : Bool) → stands n ps ≡ s
-          → crossing (b || some_pin (λ (k : ℕ). ltb k c) n ps) (some_pin (λ (k : ℕ). eqb k c) n ps)
-          (leaves_right (kind_of n) || some_pin (λ (k : ℕ). ltb c k) n ps)
-          ≡ false
-      go true h s e = absurd (omega (arith, end_holds l (λ (c : ℕ). c ≤ l) min (λ i j a b. omega arith) 0 n ps inside (omega arith)))
-      go false h true e = absurd (omega (arith, end_stands l 255 n ps inside e))
-      go false h false e = rw (no_pin (λ (k : ℕ). ltb k c) n ps e, no_pin (λ (k : ℕ). eqb k c) n ps e)
+  -- where f says which nets are straight wires that count
+  module _ (f : ℕ → Bool) where
+    -- a net that reaches nothing has no pin and does not leave at the left: it crosses no column
+    nowhere : 255 ≤ leftmost n ps → (c : ℕ) → crosses f ps n c ≡ false
+    unfolding crosses leftmost
+    nowhere h c = go (leaves_left (kind_of n)) h (stands n ps) refl
+      where
+        go : (b : Bool) → 255 ≤ end_from min (cond b 0 255) n ps → (s : Bool) → stands n ps ≡ s
+            → crossing (f n) (b || some_pin (λ (k : ℕ). ltb k c) n ps) (some_pin (λ (k : ℕ). eqb k c) n ps)
+            (leaves_right (kind_of n) || some_pin (λ (k : ℕ). ltb c k) n ps)
+            ≡ false
+        go true h s e = absurd (omega (arith, end_holds l (λ (c : ℕ). c ≤ l) min (λ i j a b. omega arith) 0 n ps inside (omega arith)))
+        go false h true e = absurd (omega (arith, end_stands l (λ (c : ℕ). c ≤ l) min (λ i j a. omega arith) 255 n ps inside e))
+        go false h false e = rw (no_pin (λ (k : ℕ). ltb k c) n ps e, no_pin (λ (k : ℕ). eqb k c) n ps e)
 
-  -- a net crosses its left end exactly if it reaches from one column to another
-  pub counts_ends : crosses ps n (left_end ps n) ≡ ltb (leftmost n ps) (rightmost n ps)
-  counts_ends = go (ltb (leftmost n ps) 255) refl
-    where
-      go : (b : Bool) → ltb (leftmost n ps) 255 ≡ b → crosses ps n (left_end ps n) ≡ ltb (leftmost n ps) (rightmost n ps)
-      go false q =
-          let h = ltb-false (leftmost n ps) 255 q in
-          nowhere h (left_end ps n)
-          ∙ sym (le-ltb (leftmost n ps) (rightmost n ps) (omega (arith, rightmost_inside)))
-      go true q =
-          crosses-span ps n (left_end ps n) (omega (arith, left_end_lem)) (omega (arith, left_end_lem, ltb-true (leftmost n ps) 255 q))
-          ∙ spans-from (leftmost n ps) (rightmost n ps) (left_end ps n)
-          ∙ reach (ltb (leftmost n ps) (rightmost n ps)) refl
-        where
-          reach : (b : Bool) → ltb (leftmost n ps) (rightmost n ps) ≡ b
-              → (b && (leb (leftmost n ps) (left_end ps n) && leb (left_end ps n) (rightmost n ps))) ≡ b
-          reach false e = refl
-          reach true e =
-              let order = ltb-true (leftmost n ps) (rightmost n ps) e in
-              rw (
-                le-leb (leftmost n ps) (left_end ps n) (omega (arith, left_end_lem)),
-                le-leb (left_end ps n) (rightmost n ps) (omega (arith, left_end_lem)),
-              )
+    -- a net crosses its left end exactly if it reaches into the channel and its ends differ, or it is a straight wire that counts
+    crosses_left_end :
+        crosses f ps n (left_end ps n)
+        ≡ (counts (f n) (leftmost n ps) (rightmost n ps) && (ltb (leftmost n ps) 255 && ltb 0 (rightmost n ps)))
+    crosses_left_end = go (ltb (leftmost n ps) 255) refl
+      where
+        go : (b : Bool) → ltb (leftmost n ps) 255 ≡ b
+            → crosses f ps n (left_end ps n) ≡ (counts (f n) (leftmost n ps) (rightmost n ps) && (b && ltb 0 (rightmost n ps)))
+        go false q = nowhere (ltb-false (leftmost n ps) 255 q) (left_end ps n) ∙ rw and-false
+        go true q =
+            let h = ltb-true (leftmost n ps) 255 q in
+            crosses-span f ps n (left_end ps n) (omega (arith, left_end_lem)) (omega (arith, left_end_lem))
+            ∙ grind (arith, nat_tests, left_end_lem)
 
-  -- its interval says which columns it crosses
-  pub crosses-interval : (c : ℕ) → 1 ≤ c → c ≤ l
-      → crosses ps n c ≡ (crosses ps n (left_end ps n) && (leb (left_end ps n) c && leb c (right_end l ps n)))
-  crosses-interval c p q =
-      crosses-span ps n c p (omega arith)
-      ∙ spans-from (leftmost n ps) (rightmost n ps) c
-      ∙ rw (
-        counts_ends,
-        leb_same (left_end ps n) c (leftmost n ps) c (λ h. omega (arith, left_end_lem)) (λ h. omega (arith, left_end_lem)),
-        leb_same c (right_end l ps n) c (rightmost n ps) (λ h. omega (arith, right_end_lem)) (λ h. omega (arith, right_end_lem)),
-      )
+    -- which one does whose ends differ, and so does such a wire, as it has a pin
+    pub counts_ends : (f n ≡ true → stands n ps ≡ true)
+        → crosses f ps n (left_end ps n) ≡ counts (f n) (leftmost n ps) (rightmost n ps)
+    counts_ends pinned = crosses_left_end ∙ grind (arith, nat_tests, pinned, ends_stand, rightmost_inside)
 
-  pub interval-fits : Fits l (crosses ps) (interval_of l ps n)
-  interval-fits = record { exact = crosses-interval; within = within }
-    where
-      within : crosses ps n (left_end ps n) ≡ true → (1 ≤ left_end ps n) × (left_end ps n ≤ right_end l ps n) × (right_end l ps n ≤ l)
-      within e =
-          let order = ltb-true (leftmost n ps) (rightmost n ps) (sym counts_ends ∙ e) in
-          let last = rightmost_inside in
-          let column = leftmost_inside.1 (omega arith) in
-          (omega (arith, left_end_lem), omega (arith, left_end_lem, right_end_lem), omega (arith, right_end_lem))
+    -- its interval says which columns it crosses
+    pub crosses-interval : (c : ℕ) → 1 ≤ c → c ≤ l
+        → crosses f ps n c ≡ (crosses f ps n (left_end ps n) && (leb (left_end ps n) c && leb c (right_end l ps n)))
+    crosses-interval c p q =
+        crosses-span f ps n c p (omega arith) ∙ rw crosses_left_end (grind (arith, nat_tests, left_end_lem, right_end_lem))
+
+    pub interval-fits : Fits l (crosses f ps) (interval_of f l ps n)
+    interval-fits = record { exact = crosses-interval; within = within }
+      where
+        within : crosses f ps n (left_end ps n) ≡ true → (1 ≤ left_end ps n) × (left_end ps n ≤ right_end l ps n) × (right_end l ps n ≤ l)
+        within e =
+            let (counted, column) = and_parts (counts (f n) (leftmost n ps) (rightmost n ps)) _ (sym crosses_left_end ∙ e) in
+            grind (arith, nat_tests, left_end_lem, right_end_lem, leftmost_inside)

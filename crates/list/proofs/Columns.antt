@@ -1,7 +1,7 @@
 -- The check of a column list, from what the sheet layer and the two tests answer.
 -- Assumes nothing.
 use Rattle.std.proofs.Common.{◌≡◌, ℕ, ◌+◌, ◌-◌, ◌≤◌, true, false, ◌&&◌, List, length, take, drop, ℤ, Some, None, Ok, Err, Result, sym, ap, ◌∙◌, arith, length-drop, take_all, eq-eqb, ne_eqb}
-use Rattle.channel.specs.Sheet.{Terminal, Sheet, sheet_with}
+use Rattle.channel.specs.Sheet.{Sheet}
 use Rattle.channel.specs.Assignment.{top_columns, bottom_columns}
 use Rattle.refusals.specs.declared.Refusal.{Refusal}
 use Rattle.refusals.specs.declared.ListRefusal.TheVariants.{Sheet as Unsound, Count, Allowed, Distance}
@@ -28,15 +28,15 @@ abbrev bottom_part : List ℕ → ℕ → List ℕ
 bottom_part cs p = take (length cs - p) (drop p cs)
 
 -- 14 of both
-abbrev both_amount : List Terminal → List Terminal → List ℕ → ℕ → ℤ
-both_amount ts us cs p = first_of (side_amount ts (top_part cs p)) (side_amount us (bottom_part cs p))
+abbrev both_amount : Sheet → List ℕ → ℕ → ℤ
+both_amount s cs p = first_of (side_amount s.top (top_part cs p)) (side_amount s.bottom (bottom_part cs p))
 
-module _ (l : ℕ) (ts us : List Terminal) (cs : List ℕ) (n : Layout) (p : ℕ) (size : p ≡ length ts) where
-  tops : top_columns (sheet_with l ts us) cs ≡ top_part cs p
+module _ (s : Sheet) (cs : List ℕ) (n : Layout) (p : ℕ) (size : p ≡ length s.top) where
+  tops : top_columns s cs ≡ top_part cs p
   unfolding top_columns
   tops = rw size
 
-  bottoms : bottom_columns (sheet_with l ts us) cs ≡ bottom_part cs p
+  bottoms : bottom_columns s cs ≡ bottom_part cs p
   unfolding bottom_columns
   bottoms =
       let whole : length (drop p cs) ≤ length cs - p = rw length-drop (omega arith) in
@@ -44,34 +44,34 @@ module _ (l : ℕ) (ts us : List Terminal) (cs : List ℕ) (n : Layout) (p : ℕ
 
   -- the answer, side by side
   sides :
-      unless (side_allowed ts (top_part cs p) && side_allowed us (bottom_part cs p)) Allowed
-      (unless (is_zero (both_amount ts us cs p)) (Distance (both_amount ts us cs p)) (Ok n))
-      ≡ columns_listed (sheet_with l ts us) cs n
+      unless (side_allowed s.top (top_part cs p) && side_allowed s.bottom (bottom_part cs p)) Allowed
+      (unless (is_zero (both_amount s cs p)) (Distance (both_amount s cs p)) (Ok n))
+      ≡ columns_listed s cs n
   unfolding columns_listed all_allowed first_amount
   sides = rw (tops, bottoms)
 
   -- 13 of the top, then of the bottom, then 14
-  pub top-refused : side_allowed ts (top_part cs p) ≡ false → Err Allowed ≡ columns_listed (sheet_with l ts us) cs n
+  pub top-refused : side_allowed s.top (top_part cs p) ≡ false → Err Allowed ≡ columns_listed s cs n
   top-refused e = rw e at sides
 
-  module _ (top : side_allowed ts (top_part cs p) ≡ true) where
-    pub bottom-refused : side_allowed us (bottom_part cs p) ≡ false → Err Allowed ≡ columns_listed (sheet_with l ts us) cs n
+  module _ (top : side_allowed s.top (top_part cs p) ≡ true) where
+    pub bottom-refused : side_allowed s.bottom (bottom_part cs p) ≡ false → Err Allowed ≡ columns_listed s cs n
     bottom-refused e = rw (top, e) at sides
 
-    module _ (bottom : side_allowed us (bottom_part cs p) ≡ true) where
+    module _ (bottom : side_allowed s.bottom (bottom_part cs p) ≡ true) where
       by-amount :
-          unless (is_zero (both_amount ts us cs p)) (Distance (both_amount ts us cs p)) (Ok n) ≡ columns_listed (sheet_with l ts us) cs n
+          unless (is_zero (both_amount s cs p)) (Distance (both_amount s cs p)) (Ok n) ≡ columns_listed s cs n
       by-amount = rw (top, bottom) at sides
 
       pub distance-refused :
-          (found : ℤ) → out_of_range (both_amount ts us cs p) ≡ Some found
-          → Err (Distance found) ≡ columns_listed (sheet_with l ts us) cs n
+          (found : ℤ) → out_of_range (both_amount s cs p) ≡ Some found
+          → Err (Distance found) ≡ columns_listed s cs n
       distance-refused found e =
-          let (apart, same) = some_amount (both_amount ts us cs p) found e in
+          let (apart, same) = some_amount (both_amount s cs p) found e in
           rw (apart, same) at by-amount
 
-      pub listed : out_of_range (both_amount ts us cs p) ≡ None → Ok n ≡ columns_listed (sheet_with l ts us) cs n
-      listed e = rw (none_amount (both_amount ts us cs p) e) at by-amount
+      pub listed : out_of_range (both_amount s cs p) ≡ None → Ok n ≡ columns_listed s cs n
+      listed e = rw (none_amount (both_amount s cs p) e) at by-amount
 
 -- what is said of a sheet that does not open
 pub sheet-refused : (b cs : List ℕ) (why : Refusal) → opened_of b ≡ Err why → Err (Unsound why) ≡ listed_of b cs

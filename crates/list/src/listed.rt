@@ -1,6 +1,6 @@
 // A sheet with a column list beside it.
 ghost use Rattle.std.specs.Prelude.{◌≡◌, ◌++◌};
-ghost use Rattle.channel.specs.Cut.{nets as nets_of};
+ghost use Rattle.channel.specs.Sheet.{nets as nets_of};
 ghost use Rattle.format.specs.Parts.{terminals_in};
 ghost use Rattle.sheet.specs.Sections.{Beside};
 
@@ -18,8 +18,9 @@ pub struct ListedSheet<'a> {
 }
 
 impl<'a> ListedSheet<'a> {
-    // The pins: the nets of the terminals, in the room that is lent, beside their columns.
+    // The pins, with the mark: the nets of the terminals, in the room that is lent, beside their columns.
     pub fn pins(self, nets: &'a mut ArrayVec<u16, 128>) -> PinList<'a>
+        ensures mark { result.mark ≡ self.entry.sections.mark }
         ensures columns { result.columns ≡ self.entry.columns }
         ensures nets { result.nets.now
             ≡ nets_of (terminals_in self.entry.sections.top.now ++ terminals_in self.entry.sections.bottom.now) }
@@ -29,6 +30,7 @@ impl<'a> ListedSheet<'a> {
             nets.push(net);
         }
         PinList {
+            mark: self.sections.mark,
             nets,
             columns: self.columns,
         }

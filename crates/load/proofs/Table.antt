@@ -1,6 +1,7 @@
 -- Why the loads of a cut, put in, are those of its cell.
 -- Assumes nothing.
 use Rattle.std.proofs.Common.{ℕ, zero, suc, ◌≤◌, ◌≡◌, refl, sym, ◌∙◌, ap, List, cond, ◌||◌, arith, length, eqb, ne_eqb}
+use Rattle.mark.specs.declared.Mark.{Mark}
 use Rattle.arrays.specs.Rules.{pins}
 use Rattle.arrays.specs.Loads.{load_bytes, put_loads}
 use Rattle.arrays.proofs.Cuts.{length-put_loads, top-put, bottom-put, both-put, load-put_other}
@@ -21,15 +22,15 @@ kept_both zero j x y h = refl
 kept_both (suc i) j x y h = rw (ne_eqb (suc i) 0 (λ e. omega arith)) (kept j x y (h (omega arith)))
 
 -- the loads of a cut, put in
-pub write_cell : (tops bottoms : List ℕ) (places : List NetPlaces) → Listed tops bottoms places
+pub write_cell : (mark : Mark) (tops bottoms : List ℕ) (places : List NetPlaces) → Listed mark tops bottoms places
     → (i j : ℕ) → i ≤ length tops → j ≤ length bottoms
     → (old new : List ℕ) (l m : Loads)
     → length new ≡ load_bytes
     → l ≡ loads_at places (cut_of tops bottoms i j)
     → m ≡ possible_loads l i j
     → new ≡ put_loads old i j m.top m.bottom m.both
-    → Written tops bottoms old new (λ x y. (x ≡ i) × (y ≡ j))
-write_cell tops bottoms places listed i j h k old new l m all e f s =
+    → Written mark tops bottoms old new (λ x y. (x ≡ i) × (y ≡ j))
+write_cell mark tops bottoms places listed i j h k old new l m all e f s =
     let size : length old ≡ load_bytes = sym (length-put_loads old i j m.top m.bottom m.both) ∙ ap length (sym s) ∙ all in
     let put : m ≡ possible_loads (loads_at places (cut_of tops bottoms i j)) i j = f ∙ ap (λ (n : Loads). possible_loads n i j) e in
     let t : i ≤ pins = omega (arith, listed.top) in
@@ -40,15 +41,15 @@ write_cell tops bottoms places listed i j h k old new l m all e f s =
         top =
             top-put old i j m.top m.bottom m.both b size t
             ∙ ap (λ (n : Loads). n.top) put
-            ∙ kept i _ _ (top-load tops bottoms places listed i j h k);
+            ∙ kept i _ _ (top-load mark tops bottoms places listed i j h k);
         bottom =
             bottom-put old i j m.top m.bottom m.both b size t
             ∙ ap (λ (n : Loads). n.bottom) put
-            ∙ kept j _ _ (bottom-load tops bottoms places listed i j h k);
+            ∙ kept j _ _ (bottom-load mark tops bottoms places listed i j h k);
         both =
             both-put old i j m.top m.bottom m.both b size t
             ∙ ap (λ (n : Loads). n.both) put
-            ∙ kept_both i j _ _ (both-load tops bottoms places listed i j h k);
+            ∙ kept_both i j _ _ (both-load mark tops bottoms places listed i j h k);
       });
       others = λ x y letter g c o. load-put_other old i j m.top m.bottom m.both b x y letter g c (λ p q. o (p, q));
     })

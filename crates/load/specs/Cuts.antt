@@ -2,27 +2,28 @@
 -- Assumes nothing.
 use Rattle.std.specs.Prelude.{ℕ, ◌≤◌, ◌≡◌, List, cond, ◌||◌, length, eqb}
 use Rattle.channel.specs.Word.Letter.{top as T, bottom as B, both as TB}
+use Rattle.mark.specs.declared.Mark.{Mark}
 use Rattle.cut.specs.Counts.{load_of}
 use Rattle.arrays.specs.Rules.{pins}
 use Rattle.arrays.specs.Loads.{load_at}
 
--- the loads of the cut (i, j), of a column with a top pin only, a bottom pin only, and both.
+-- the loads of the cut (i, j) on a sheet with this mark, of a column with a top pin only, a bottom pin only, and both.
 -- A column with a top pin has i ≥ 1, and one with a bottom pin has j ≥ 1: where there is no such column, the byte is 0.
-pub record Cell (tops bottoms loads : List ℕ) (i j : ℕ) : Type 0 where
-  pub top : load_at loads i j 0 ≡ cond (eqb i 0) 0 (load_of tops bottoms T i j)
-  pub bottom : load_at loads i j 1 ≡ cond (eqb j 0) 0 (load_of tops bottoms B i j)
-  pub both : load_at loads i j 2 ≡ cond (eqb i 0 || eqb j 0) 0 (load_of tops bottoms TB i j)
+pub record Cell (m : Mark) (tops bottoms loads : List ℕ) (i j : ℕ) : Type 0 where
+  pub top : load_at loads i j 0 ≡ cond (eqb i 0) 0 (load_of m tops bottoms T i j)
+  pub bottom : load_at loads i j 1 ≡ cond (eqb j 0) 0 (load_of m tops bottoms B i j)
+  pub both : load_at loads i j 2 ≡ cond (eqb i 0 || eqb j 0) 0 (load_of m tops bottoms TB i j)
 
 -- the loads of all cuts put into the table `old`: with p top and q bottom pins, i up to p and j up to q. The loads of all
 -- other cuts are as they were.
-pub record LoadsRead (tops bottoms old new : List ℕ) : Type 0 where
+pub record LoadsRead (m : Mark) (tops bottoms old new : List ℕ) : Type 0 where
   pub size : length new ≡ length old
-  pub cell : (i j : ℕ) → i ≤ length tops → j ≤ length bottoms → Cell tops bottoms new i j
+  pub cell : (i j : ℕ) → i ≤ length tops → j ≤ length bottoms → Cell m tops bottoms new i j
   pub others :
       (i j letter : ℕ) → j ≤ pins → letter ≤ 2 → (i ≤ length tops → j ≤ length bottoms → ⊥) → load_at new i j letter ≡ load_at old i j letter
 
 -- the same of some cuts: those that `cuts` names
-pub record Written (tops bottoms old new : List ℕ) (cuts : ℕ → ℕ → Type 0) : Type 0 where
+pub record Written (m : Mark) (tops bottoms old new : List ℕ) (cuts : ℕ → ℕ → Type 0) : Type 0 where
   pub size : length new ≡ length old
-  pub cell : (i j : ℕ) → cuts i j → Cell tops bottoms new i j
+  pub cell : (i j : ℕ) → cuts i j → Cell m tops bottoms new i j
   pub others : (i j letter : ℕ) → j ≤ pins → letter ≤ 2 → (cuts i j → ⊥) → load_at new i j letter ≡ load_at old i j letter

@@ -12,6 +12,7 @@ ghost use Rattle.places.specs.Places.{AsksPlaces, Listed};
 use arrays::{LoadTable, Loads};
 use arrayvec::ArrayVec;
 use cut::{Cut, loads_at, stand_at};
+use mark::Mark;
 use nets::Nets;
 use places::{NetPlaces, list_places};
 
@@ -26,13 +27,14 @@ fn possible_loads(l: Loads, i: usize, j: usize) -> Loads
     }
 }
 
-// The nets of both sides, and where each stands.
+// The mark, the nets of both sides, and where each stands.
 #[derive(Clone, Copy)]
 struct ListedNets<'a> {
+    mark: Mark,
     tops: &'a [u16],
     bottoms: &'a [u16],
     places: &'a [NetPlaces],
-    ghost listed: { Listed tops.now bottoms.now places.now },
+    ghost listed: { Listed mark tops.now bottoms.now places.now },
 }
 
 impl ListedNets<'_> {
@@ -40,7 +42,7 @@ impl ListedNets<'_> {
     fn write_cell(self, i: usize, j: usize, loads: &mut LoadTable)
         requires { (i ≤ length self.tops.now) × (j ≤ length self.bottoms.now) }
         ensures { let s = self.entry in
-            Written s.tops.now s.bottoms.now loads.old.bytes loads.new.bytes (λ (x y : ℕ). (x ≡ i) × (y ≡ j)) }
+            Written s.mark s.tops.now s.bottoms.now loads.old.bytes loads.new.bytes (λ (x y : ℕ). (x ≡ i) × (y ≡ j)) }
     {
         let top = stand_at(self.tops, i);
         let bottom = stand_at(self.bottoms, j);
@@ -52,7 +54,7 @@ impl ListedNets<'_> {
     fn write_row(self, i: usize, loads: &mut LoadTable)
         requires { i ≤ length self.tops.now }
         ensures { let s = self.entry in
-            Written s.tops.now s.bottoms.now loads.old.bytes loads.new.bytes
+            Written s.mark s.tops.now s.bottoms.now loads.old.bytes loads.new.bytes
             (λ (x y : ℕ). (x ≡ i) × (y < length s.bottoms.now + 1)) }
     {
         for j in 0..=self.bottoms.len() {
@@ -62,7 +64,7 @@ impl ListedNets<'_> {
 
     // Puts the loads of all cuts into the table.
     fn write_table(self, loads: &mut LoadTable)
-        ensures { let s = self.entry in LoadsRead s.tops.now s.bottoms.now loads.old.bytes loads.new.bytes }
+        ensures { let s = self.entry in LoadsRead s.mark s.tops.now s.bottoms.now loads.old.bytes loads.new.bytes }
     {
         for i in 0..=self.tops.len() {
             self.write_row(i, loads);
@@ -71,12 +73,13 @@ impl ListedNets<'_> {
 }
 
 // The table of the nets of two sides, of which the first p are the top's.
-fn tabulate(nets: &[u16], p: usize, loads: &mut LoadTable)
+fn tabulate(mark: Mark, nets: &[u16], p: usize, loads: &mut LoadTable)
     requires { AsksPlaces nets.now p }
-    ensures { LoadsRead (take p nets.now) (drop p nets.now) loads.old.bytes loads.new.bytes }
+    ensures { LoadsRead mark (take p nets.now) (drop p nets.now) loads.old.bytes loads.new.bytes }
 {
-    let places = list_places(nets, p);
+    let places = list_places(mark, nets, p);
     let listed = ListedNets {
+        mark,
         tops: &nets[..p],
         bottoms: &nets[p..],
         places: &places,
@@ -84,14 +87,14 @@ fn tabulate(nets: &[u16], p: usize, loads: &mut LoadTable)
     listed.write_table(loads);
 }
 
-// The loads of all cuts of two sections, once per search.
-pub fn read_loads(top: &[u8], bottom: &[u8], loads: &mut LoadTable)
+// The loads of all cuts of two sections of a sheet with this mark, once per search.
+pub fn read_loads(mark: Mark, top: &[u8], bottom: &[u8], loads: &mut LoadTable)
     requires { (length (terminals_in top.now) ≤ 64) × (length (terminals_in bottom.now) ≤ 64) }
-    ensures { LoadsRead (nets_in top.now) (nets_in bottom.now) loads.old.bytes loads.new.bytes }
+    ensures { LoadsRead mark (nets_in top.now) (nets_in bottom.now) loads.old.bytes loads.new.bytes }
 {
     let mut nets: ArrayVec<u16, 128> = ArrayVec::new();
     for net in Nets::new(top, bottom) {
         nets.push(net);
     }
-    tabulate(&nets, format::count_in(top), loads);
+    tabulate(mark, &nets, format::count_in(top), loads);
 }

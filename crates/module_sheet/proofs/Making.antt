@@ -4,7 +4,6 @@ use Rattle.std.proofs.Common.{◌≡◌, ℕ, ◌<◌, ◌≤◌, List, ◌++◌
 use Rattle.std.proofs.Math.Seq.{sets-eq}
 use Rattle.channel.specs.Sheet.{Sheet}
 use Rattle.text.specs.Writing.{Wrote}
-use Rattle.trailer.specs.Trailer.{CP}
 use Rattle.encode.specs.Encode.{sheet_bytes, sheet_size}
 use Rattle.encode.proofs.Lengths.{length-sheet}
 use Rattle.encode.proofs.Encoded.{read_encoded}
@@ -56,13 +55,13 @@ makes_none l top bottom sheet r e h =
     }
   where
     written : List ℕ
-    written = sheet_bytes CP (module_sheet l (modules_in top) (modules_in bottom))
+    written = sheet_bytes (module_sheet l (modules_in top) (modules_in bottom))
 
 -- the sheet of two sides is as long as the rule says
 pub length_made :
-    (l : ℕ) (top bottom : List Module) → length (sheet_bytes CP (module_sheet l top bottom)) ≡ sheet_size (pin_count top) (pin_count bottom)
+    (l : ℕ) (top bottom : List Module) → length (sheet_bytes (module_sheet l top bottom)) ≡ sheet_size (pin_count top) (pin_count bottom)
 length_made l top bottom =
-    length-sheet CP (module_sheet l top bottom) refl
+    length-sheet (module_sheet l top bottom)
     ∙ ap₂ (λ (p q : ℕ). sheet_size p q) (length-terminals top) (length-terminals bottom)
 
 -- a sheet: the bytes of both sides are below 256, so the nets fit two bytes each
@@ -70,20 +69,20 @@ module _
     (l : ℕ) (top bottom sheet sheet' : List ℕ) (end : ℕ) (r : Result ℕ ModuleRefusal) (below : (i : ℕ) → get_or top i 0 < 256)
     (below' : (i : ℕ) → get_or bottom i 0 < 256) (e : r ≡ made_of l top bottom (length sheet))
     (ok : Accepted l (modules_in top) (modules_in bottom) (length sheet))
-    (w : Wrote sheet 0 (sheet_bytes CP (module_sheet l (modules_in top) (modules_in bottom))) sheet' end) where
+    (w : Wrote sheet 0 (sheet_bytes (module_sheet l (modules_in top) (modules_in bottom))) sheet' end) where
   abbrev s : Sheet
   s = module_sheet l (modules_in top) (modules_in bottom)
 
-  size : length (sheet_bytes CP s) ≡ sheet_size (pin_count (modules_in top)) (pin_count (modules_in bottom))
+  size : length (sheet_bytes s) ≡ sheet_size (pin_count (modules_in top)) (pin_count (modules_in bottom))
   size = length_made l (modules_in top) (modules_in bottom)
 
-  after : sheet' ≡ sheet_bytes CP s ++ drop (length (sheet_bytes CP s)) sheet
+  after : sheet' ≡ sheet_bytes s ++ drop (length (sheet_bytes s)) sheet
   after =
       w.bytes
-      ∙ sets-eq (sheet_bytes CP s) sheet 0 (omega (arith, size, ok.size))
-      ∙ ap (λ (n : ℕ). sheet_bytes CP s ++ drop n sheet) (zero-add (length (sheet_bytes CP s)))
+      ∙ sets-eq (sheet_bytes s) sheet 0 (omega (arith, size, ok.size))
+      ∙ ap (λ (n : ℕ). sheet_bytes s ++ drop n sheet) (zero-add (length (sheet_bytes s)))
 
-  reads_sheet : read (sheet_bytes CP s) ≡ sound s
+  reads_sheet : read (sheet_bytes s) ≡ sound s
   reads_sheet =
       let st = sound-modules l (modules_in top) ok.valid.0 ok.within.0 in
       let sb = sound-modules l (modules_in bottom) ok.valid.1 ok.within.1 in
@@ -95,14 +94,14 @@ module _
 
   reads : (n : ℕ) → r ≡ Ok n → read (take n sheet') ≡ sound s
   reads n h =
-      let long : length (sheet_bytes CP s) ≡ n = size ∙ sym (ap length_of (sym h ∙ e ∙ ok.answer)) in
-      rw after (ap read (take_at (sheet_bytes CP s) _ n long) ∙ reads_sheet)
+      let long : length (sheet_bytes s) ≡ n = size ∙ sym (ap length_of (sym h ∙ e ∙ ok.answer)) in
+      rw after (ap read (take_at (sheet_bytes s) _ n long) ∙ reads_sheet)
 
   pub makes_sheet : Makes l top bottom sheet sheet' r
   unfolding sheet_after
   makes_sheet =
       record {
         answer = e;
-        bytes = after ∙ ap (λ (m : Result ℕ ModuleRefusal). with_sheet m (sheet_bytes CP s) sheet) (sym ok.answer);
+        bytes = after ∙ ap (λ (m : Result ℕ ModuleRefusal). with_sheet m (sheet_bytes s) sheet) (sym ok.answer);
         reads = reads;
       }

@@ -4,7 +4,6 @@ use Rattle.std.proofs.Common.{◌≡◌, ℕ, ◌<◌, ◌≤◌, Bool, true, fa
 use Rattle.std.proofs.Math.Bool.{and-eq-true_iff}
 use Rattle.std.proofs.lemmas.Bool.{lt-leb}
 use Rattle.refusals.specs.declared.Refusal.TheVariants.{Length, Count, Net}
-use Rattle.trailer.specs.Trailer.{CP}
 use Rattle.encode.specs.Encode.{sheet_bytes, sheet_size}
 use Rattle.soundness.proofs.Laws.{read-sound}
 use Rattle.modules.specs.Modules.{Module, pin_count, every, is_valid, are_valid, is_within, is_named, module_sheet}
@@ -130,7 +129,7 @@ module _ (l : ℕ) (top bottom sheet sheet' : List ℕ) (r : Result ℕ ModuleRe
             gives : size ≤ length sheet → Gives l tops bottoms (number_of r) (length_of r) sheet sheet'
             unfolding sheet_after
             gives h =
-                let sheet_of = sheet_bytes CP (module_sheet l tops bottoms) in
+                let sheet_of = sheet_bytes (module_sheet l tops bottoms) in
                 let e = to9 ∙ holds (leb size (length sheet)) (Err SheetBuffer) (Ok size) (le-leb _ _ h) in
                 let a = makes.answer ∙ e in
                 let after = makes.bytes ∙ ap (λ (m : Result ℕ ModuleRefusal). with_sheet m sheet_of sheet) e in

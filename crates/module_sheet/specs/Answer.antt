@@ -2,7 +2,6 @@
 -- Assumes nothing.
 use Rattle.std.specs.Prelude.{ℕ, ◌≡◌, List, ◌++◌, Bool, true, false, ◌&&◌, length, take, drop, leb, Result, Ok, Err}
 use Rattle.refusals.specs.declared.Refusal.TheVariants.{Length, Count, Net}
-use Rattle.trailer.specs.Trailer.{CP}
 use Rattle.encode.specs.Encode.{sheet_bytes, sheet_size}
 use Rattle.soundness.specs.Read.{read}
 use Rattle.soundness.specs.Read.Read.{sound}
@@ -47,7 +46,7 @@ with_sheet (Err why) bytes old = old
 -- the sheet buffer at exit
 unfoldable pub sheet_after : ℕ → List ℕ → List ℕ → List ℕ → List ℕ
 sheet_after l top bottom old =
-    with_sheet (made_of l top bottom (length old)) (sheet_bytes CP (module_sheet l (modules_in top) (modules_in bottom))) old
+    with_sheet (made_of l top bottom (length old)) (sheet_bytes (module_sheet l (modules_in top) (modules_in bottom))) old
 
 -- what was written is read back as the sheet meant
 abbrev pub ReadsBack : ℕ → List ℕ → List ℕ → List ℕ → Result ℕ ModuleRefusal → Type 0

@@ -3,7 +3,6 @@
 -- Assumes nothing.
 use Rattle.std.specs.Prelude.{ℕ, ◌≤◌, ◌<◌, ◌≡◌, List, true, length, take, drop}
 use Rattle.channel.specs.Sheet.{Sound}
-use Rattle.trailer.specs.Trailer.{CP}
 use Rattle.encode.specs.Encode.{sheet_bytes, sheet_size}
 use Rattle.soundness.specs.Read.{read}
 use Rattle.soundness.specs.Read.Read.{sound}
@@ -39,7 +38,7 @@ Named top bottom = (every is_named top ≡ true) × (every is_named bottom ≡ t
 pub record Gives (l : ℕ) (top bottom : List Module) (number written : ℕ) (sheet sheet' : List ℕ) : Type 0 where
   pub returned : number ≡ 0
   pub length : written ≡ sheet_size (pin_count top) (pin_count bottom)
-  pub bytes : take written sheet' ≡ sheet_bytes CP (module_sheet l top bottom)
+  pub bytes : take written sheet' ≡ sheet_bytes (module_sheet l top bottom)
   pub behind : drop written sheet' ≡ drop written sheet
   pub whole : Sound (module_sheet l top bottom)
   pub reads : read (take written sheet') ≡ sound (module_sheet l top bottom)

@@ -3,7 +3,6 @@
 
 ghost use Rattle.std.specs.Prelude.{◌≡◌, ◌≤◌, length};
 ghost use Rattle.text.specs.Writing.{Wrote};
-ghost use Rattle.trailer.specs.Trailer.{CP};
 ghost use Rattle.encode.specs.Encode.{sheet_bytes, sheet_size};
 ghost use Rattle.modules.specs.Modules.{pin_count, module_sheet};
 ghost use Rattle.modules.specs.Bytes.{modules_in};
@@ -13,6 +12,7 @@ ghost use Rattle.module_sheet.specs.Answer.{answer_of, Makes};
 use encode::put_trailer;
 use format::RECORD;
 use made::{Made, ModuleRefusal};
+use mark::Mark;
 use module_check::{Tests, check_modules, combine};
 use module_records::put_modules;
 use refusals::Refusal;
@@ -56,7 +56,7 @@ fn put_sheet(out: &mut [u8], columns: usize, top: CountedSide, bottom: CountedSi
     requires { AllWritable (modules_in top.bytes.now) × AllWritable (modules_in bottom.bytes.now)
         × (top.pins ≤ 64) × (sheet_size top.pins bottom.pins ≤ length out.old) }
     ensures { Wrote out.old 0
-        (sheet_bytes CP (module_sheet columns (modules_in top.entry.bytes.now) (modules_in bottom.entry.bytes.now))) out.new result }
+        (sheet_bytes (module_sheet columns (modules_in top.entry.bytes.now) (modules_in bottom.entry.bytes.now))) out.new result }
 {
     let mut writer = Writer { out, end: 0 };
     put_modules(&mut writer, top.bytes);
@@ -72,7 +72,7 @@ fn put_sheet(out: &mut [u8], columns: usize, top: CountedSide, bottom: CountedSi
         },
         columns,
     };
-    put_trailer(&mut writer, t, b"CP");
+    put_trailer(&mut writer, t, Mark::Cp);
     writer.end
 }
 

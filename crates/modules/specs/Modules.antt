@@ -1,6 +1,7 @@
 -- Modules that move whole, and the sheet of two sides of them (document 02, T-02; document 003, section 5.3).
 -- Assumes nothing.
 use Rattle.std.specs.Prelude.{ℕ, ◌+◌, ◌-◌, ◌*◌, ◌^◌, List, [], ◌∷◌, ◌++◌, Bool, true, false, not, ◌&&◌, length, leb, ltb, eqb}
+use Rattle.mark.specs.declared.Mark.TheVariants.{Cp}
 use Rattle.channel.specs.Sheet.{Terminal, Sheet, sheet_with, names_above}
 use Rattle.modules.specs.declared.Pin.{Pin}
 
@@ -67,9 +68,9 @@ terminals_behind is_first gap (m ∷ ms) = module_terminals is_first gap m ++ te
 abbrev pub side_terminals : List Module → List Terminal
 side_terminals ms = terminals_behind true 0 ms
 
--- "Turn two such sides into a sheet"
+-- "Turn two such sides into a sheet", with "the mark of the sheets it is made from, else CP"
 abbrev pub module_sheet : ℕ → List Module → List Module → Sheet
-module_sheet l top bottom = sheet_with l (side_terminals top) (side_terminals bottom)
+module_sheet l top bottom = sheet_with Cp l (side_terminals top) (side_terminals bottom)
 
 -- a test holds of each module of a side
 abbrev pub every : (Module → Bool) → List Module → Bool

@@ -1,7 +1,7 @@
 -- The nets of a section's terminals.
 -- Assumes nothing.
 use Rattle.std.specs.Prelude.{ℕ, List}
-use Rattle.channel.specs.Cut.{nets}
+use Rattle.channel.specs.Sheet.{nets}
 use Rattle.format.specs.Parts.{terminals_in}
 
 -- the nets of a section's terminals

@@ -1,12 +1,13 @@
 // The nets of a sheet's terminals.
 #![tactic(auto)]
 
-ghost use Rattle.std.specs.Prelude.{◌≡◌, ◌++◌, eqb};
-ghost use Rattle.channel.specs.Density.{any};
-ghost use Rattle.channel.specs.Cut.{nets as nets_of};
+ghost use Rattle.std.specs.Prelude.{◌≡◌, ◌≤◌, ◌++◌, eqb, length};
+ghost use Rattle.channel.specs.Density.{any, pin_count, straight};
+ghost use Rattle.channel.specs.Sheet.{nets as nets_of};
 ghost use Rattle.format.specs.Parts.{terminals_in};
 
 use format::Terminals;
+use mark::Mark;
 
 // The nets of a sheet's terminals that are still to come, top then bottom.
 #[derive(Clone, Copy)]
@@ -54,6 +55,26 @@ pub fn occurs(net: u16, nets: &[u16]) -> bool
 {
     nets.iter()
         .fold(false, |found, other| found | (net == *other))
+}
+
+// How many pins a net has, by the nets of all pins. The loop has no branch, so that the compiler can take many pins at a time.
+pub fn count_pins(net: u16, nets: &[u16]) -> u16
+    requires { length nets.now ≤ 128 }
+    ensures { result ≡ pin_count net nets.now }
+{
+    let mut count = 0;
+    for other in nets {
+        count += u16::from(*other == net);
+    }
+    count
+}
+
+// Whether a net counts in a column that has both its pins: such wires count on a sheet of this mark, and it has two pins.
+pub fn is_straight(mark: Mark, net: u16, nets: &[u16]) -> bool
+    requires { length nets.now ≤ 128 }
+    ensures { result ≡ straight mark nets.now net }
+{
+    mark.counts_straight() && count_pins(net, nets) == 2
 }
 
 // The nets of a list that are still to come: each once, where it occurs last.

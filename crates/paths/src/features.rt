@@ -9,7 +9,7 @@ pub fn is_constrained(pins: Pins, net: u16) -> bool {
 
 // Whether a net is in a constraint by its one pin, as it leaves.
 pub fn is_leaving_pin(pins: Pins, net: u16) -> bool {
-    leaves(net).any() && pins.sheet.has_one_pin(net) && is_constrained(pins, net)
+    leaves(net).any() && pins.sheet.count_pins(net) == 1 && is_constrained(pins, net)
 }
 
 // Whether a net has another one above or below its pin and is in no constraint, as it is a plain net with one pin.

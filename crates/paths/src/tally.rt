@@ -4,15 +4,18 @@ use crate::answers::Answer;
 use crate::features::{is_between, is_constrained, is_leaving_pin, is_left_out};
 use crate::trials::Case;
 use chained::ChainRefusal;
-use enumeration::{Chain, Pins};
+use enumeration::{Chain, Pins, Sheet};
+use mark::Mark;
 use std::fmt;
 
-// All lists: those refused as a measurement is; those with a circle and, of these, those with a lower net in a constraint and with a lower
-// net on the way from a circle to another; those of each number of nets of the longest chain, seven at the most where six columns have two
-// pins; those with a chain above the density. With a circle or without, those where a net that leaves is in a constraint by its one pin, and
-// those where a plain net is in none for its one pin. The lists whose answers differ.
+// The sheets with the mark CQ. All lists: those refused as a measurement is; those with a circle and, of these, those with a lower net in a
+// constraint and with a lower net on the way from a circle to another; those of each number of nets of the longest chain, seven at the most
+// where six columns have two pins; those with a chain above the density. With a circle or without, those where a net that leaves is in a
+// constraint by its one pin, those where a plain net is in none for its one pin, and those with a straight wire that counts. The lists
+// whose answers differ.
 #[derive(Clone, Copy, Debug, Default, PartialEq, Eq)]
 pub struct Tally {
+    pub cq: u64,
     pub lists: u64,
     pub refused: u64,
     pub circles: u64,
@@ -22,6 +25,7 @@ pub struct Tally {
     pub above: u64,
     pub leaving: u64,
     pub left_out: u64,
+    pub straight: u64,
     pub wrong: u64,
 }
 
@@ -31,6 +35,11 @@ fn count(n: &mut u64, so: bool) {
 }
 
 impl Tally {
+    // One sheet more.
+    pub fn add_sheet(&mut self, sheet: &Sheet) {
+        count(&mut self.cq, sheet.mark == Mark::Cq);
+    }
+
     // One list more, by the answer that is expected.
     pub fn add(&mut self, case: &Case, answer: Answer, wrong: bool) {
         count(&mut self.lists, true);
@@ -70,6 +79,7 @@ impl Tally {
         let left_out = nets.iter().any(|net| is_left_out(pins, *net));
         count(&mut self.leaving, leaving);
         count(&mut self.left_out, left_out);
+        count(&mut self.straight, pins.have_straight_wire());
     }
 }
 
@@ -77,9 +87,10 @@ impl fmt::Display for Tally {
     fn fmt<W: fmt::Write>(&self, f: &mut fmt::Formatter<W>) -> fmt::Result {
         write!(
             f,
-            "{SHEETS} sheets, {} lists, {} refused as in a measurement, ",
-            self.lists, self.refused
+            "{SHEETS} sheets, {} with the mark CQ, {} lists, ",
+            self.cq, self.lists
         )?;
+        write!(f, "{} refused as in a measurement, ", self.refused)?;
         write!(
             f,
             "{} with a circle, of these {} with a lower net in a constraint ",
@@ -102,6 +113,7 @@ impl fmt::Display for Tally {
             "{} with a plain net of one pin left out, ",
             self.left_out
         )?;
+        write!(f, "{} with a straight wire that counts, ", self.straight)?;
         write!(f, "{} differences", self.wrong)
     }
 }

@@ -2,7 +2,8 @@
 -- Assumes nothing.
 use Rattle.std.specs.Prelude.{ℕ, suc, ◌+◌, min, max, ◌≤◌, ◌<◌, ◌≡◌, List, [], ◌∷◌, ◌++◌, Bool, true, false, length, get_or, eqb}
 use Rattle.kind.specs.Kinds.{kind_of, left_start, right_start}
-use Rattle.channel.specs.Density.{distinct}
+use Rattle.mark.specs.declared.Mark.{Mark}
+use Rattle.channel.specs.Density.{straight, distinct}
 use Rattle.places.specs.declared.Ends.{Ends}
 use Rattle.places.specs.declared.NetPlaces.{NetPlaces}
 
@@ -24,14 +25,14 @@ start_of n = record { first = left_start (kind_of n); last = right_start (kind_o
 unfoldable pub ends_of : List ℕ → ℕ → Ends
 ends_of ns n = ends_from (start_of n) n 0 ns
 
--- net n with its ends on the two sides
-abbrev pub places_of : List ℕ → List ℕ → ℕ → NetPlaces
-places_of tops bottoms n = record { net = n; top = ends_of tops n; bottom = ends_of bottoms n }
+-- net n with its ends on the two sides, where f says which nets are straight wires that count
+abbrev pub places_of : (ℕ → Bool) → List ℕ → List ℕ → ℕ → NetPlaces
+places_of f tops bottoms n = record { net = n; straight = f n; top = ends_of tops n; bottom = ends_of bottoms n }
 
 -- a list of nets with their places
-abbrev pub places_list : List ℕ → List ℕ → List ℕ → List NetPlaces
-places_list tops bottoms [] = []
-places_list tops bottoms (n ∷ ns) = places_of tops bottoms n ∷ places_list tops bottoms ns
+abbrev pub places_list : (ℕ → Bool) → List ℕ → List ℕ → List ℕ → List NetPlaces
+places_list f tops bottoms [] = []
+places_list f tops bottoms (n ∷ ns) = places_of f tops bottoms n ∷ places_list f tops bottoms ns
 
 -- a list of nets of which the first p are the top side's and the others the bottom side's
 pub record AsksPlaces (ns : List ℕ) (p : ℕ) : Type 0 where
@@ -39,11 +40,11 @@ pub record AsksPlaces (ns : List ℕ) (p : ℕ) : Type 0 where
   pub split : p ≤ length ns
   pub bottom : length ns ≤ p + 64
 
--- the places of each net of two sides, once
-pub record Listed (tops bottoms : List ℕ) (list : List NetPlaces) : Type 0 where
+-- the places of each net of two sides, once, on a sheet with this mark
+pub record Listed (m : Mark) (tops bottoms : List ℕ) (list : List NetPlaces) : Type 0 where
   pub top : length tops ≤ 64
   pub bottom : length bottoms ≤ 64
-  pub places : list ≡ places_list tops bottoms (distinct (tops ++ bottoms))
+  pub places : list ≡ places_list (straight m (tops ++ bottoms)) tops bottoms (distinct (tops ++ bottoms))
 
 -- the columns of a side on which each pin has its place, from 1, for its column
 abbrev pub Placed : List ℕ → Type 0

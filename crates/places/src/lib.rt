@@ -2,12 +2,13 @@
 #![tactic(auto)]
 
 ghost use Rattle.std.specs.Prelude.{◌≡◌, take, drop};
-ghost use Rattle.channel.specs.Density.{distinct};
+ghost use Rattle.channel.specs.Density.{straight, distinct};
 ghost use Rattle.places.specs.Places.{Placed, ends_of, AsksPlaces, places_list};
 
 use arrayvec::ArrayVec;
 use ends::PinList;
-use nets::Distinct;
+use mark::Mark;
+use nets::{Distinct, is_straight};
 
 // The first and last place of a net on one side, from 1. A net that leaves at the left has first 0, one that leaves at the right last 255;
 // any other has 255 and 0 where it has no pin on the side.
@@ -19,10 +20,11 @@ pub struct Ends {
     pub last: u16,
 }
 
-// A net with its ends on the two sides.
+// A net with its ends on the two sides, and whether it is a straight wire that counts where its two pins share a column.
 #[derive(Clone, Copy, Default)]
 pub struct NetPlaces {
     pub net: u16,
+    pub straight: bool,
     pub top: Ends,
     pub bottom: Ends,
 }
@@ -48,26 +50,31 @@ fn number(columns: &mut [u8; 64])
     }
 }
 
-// The places of all nets, each once.
-pub fn list_places(nets: &[u16], p: usize) -> ArrayVec<NetPlaces, 128>
+// The places of all nets, each once, on a sheet with this mark.
+pub fn list_places(mark: Mark, nets: &[u16], p: usize) -> ArrayVec<NetPlaces, 128>
     requires { AsksPlaces nets.now p }
-    ensures { result.items ≡ places_list (take p nets.now) (drop p nets.now) (distinct nets.now) }
+    ensures { result.items ≡ places_list (straight mark nets.now) (take p nets.now) (drop p nets.now) (distinct nets.now) }
 {
     let mut columns = [0; 64];
     number(&mut columns);
     let tops = PinList {
+        mark,
         nets: &nets[..p],
         columns: &columns[..p],
     };
     let bottoms = PinList {
+        mark,
         nets: &nets[p..],
         columns: &columns[..nets.len() - p],
     };
     let mut places = ArrayVec::new();
     for net in (Distinct { left: nets }) {
-        let top = ends_of(tops, net);
-        let bottom = ends_of(bottoms, net);
-        places.push(NetPlaces { net, top, bottom });
+        places.push(NetPlaces {
+            net,
+            straight: is_straight(mark, net, nets),
+            top: ends_of(tops, net),
+            bottom: ends_of(bottoms, net),
+        });
     }
     places
 }

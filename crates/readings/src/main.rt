@@ -40,11 +40,11 @@ fn main(rt: HostRuntime) -> io::Result<()> {
     // the file has B 1, T 1, T 2; the walk goes T 1, T 2, B 1
     walk(
         &mut out,
-        "bottom section first",
+        "bottom section first, with the mark CQ",
         b"\x09\x00\x00\x00\x01\x00\x00\x00\x00\x00\x00\x80\
           \x07\x00\x00\x00\x06\x00\x00\x00\x00\x00\x00\x00\
           \x2c\x01\x02\x04\x00\x01\x00\x00\x00\x00\x00\x00\
-          \x0c\x00\x02\x00\x00\x00\x01\x00\x40\x00CP",
+          \x0c\x00\x02\x00\x00\x00\x01\x00\x40\x00CQ",
         5,
     )?;
     // one bottom terminal, with the empty set

@@ -3,7 +3,7 @@
 use Rattle.std.proofs.Common.{◌≡◌, ℕ, ◌≤◌, List, [], ◌++◌, ◌-◌, length, take, drop, Ok, Err, sym, refl, ap, ◌∙◌, arith, length-take-le, length-drop, take_all}
 use Rattle.std.proofs.lemmas.List.{take-append-drop}
 use Rattle.std.specs.Borrow.{Bor}
-use Rattle.channel.specs.Sheet.{Terminal, sheet_with}
+use Rattle.channel.specs.Sheet.{Sheet}
 use Rattle.refusals.specs.declared.Refusal.{Refusal}
 use Rattle.channel.specs.declared.Side.TheVariants.{Top, Bottom}
 use Rattle.soundness.specs.Read.{Read, sheet_of, read}
@@ -59,13 +59,13 @@ module _ (s : Bor (List ℕ)) (layout : Layout) (opening : opened_of s.now ≡ O
 
 -- the lines of two sides, one behind the other, each with its columns
 pub side-lines :
-    (ts us : List Terminal) (l p : ℕ) (columns : List ℕ) → p ≡ length ts → p ≤ length columns
-    → lines (visits Top 1 ts) (take p columns) ++ lines (visits Bottom 1 us) (take (length columns - p) (drop p columns))
-    ≡ lines (all_visits (sheet_with l ts us)) columns
-side-lines ts us l p columns size enough =
+    (s : Sheet) (p : ℕ) (columns : List ℕ) → p ≡ length s.top → p ≤ length columns
+    → lines (visits Top 1 s.top) (take p columns) ++ lines (visits Bottom 1 s.bottom) (take (length columns - p) (drop p columns))
+    ≡ lines (all_visits s) columns
+side-lines s p columns size enough =
     let whole : length (drop p columns) ≤ length columns - p = rw length-drop (omega arith) in
-    rw (visits_of_lem (sheet_with l ts us), take_all (length columns - p) (drop p columns) whole)
+    rw (visits_of_lem s, take_all (length columns - p) (drop p columns) whole)
     (sym
-    (lines-append (visits Top 1 ts) (visits Bottom 1 us) (take p columns) (drop p columns)
-    (length-visits Top 1 ts ∙ sym size ∙ sym (length-take-le p columns enough)))
-    ∙ ap (lines (visits Top 1 ts ++ visits Bottom 1 us)) (take-append-drop p columns))
+    (lines-append (visits Top 1 s.top) (visits Bottom 1 s.bottom) (take p columns) (drop p columns)
+    (length-visits Top 1 s.top ∙ sym size ∙ sym (length-take-le p columns enough)))
+    ∙ ap (lines (visits Top 1 s.top ++ visits Bottom 1 s.bottom)) (take-append-drop p columns))

@@ -84,6 +84,7 @@ impl<W: Write> Shared<'_, W> {
         let sheet = drawn::roomy_sheet_of(n, plan);
         let mut page = Page::new();
         drawn::put_sheet(&mut page, plan, &sheet);
+        self.tally.add_sheet(&sheet);
         for k in 0..LISTS {
             let trial = Trial {
                 n,

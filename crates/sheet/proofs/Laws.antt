@@ -18,7 +18,7 @@ use Rattle.sheet.specs.Sections.{Held, sheet_held}
 use Rattle.std.specs.Borrow.{Bor}
 use Rattle.sheet.specs.Parts.{shape, shape_as, shape_of, layout_of, opened_of, section_of, sheet_in, entry_of, entry_in}
 use Rattle.soundness.proofs.Laws.{sound-read, read_checked, read-refused}
-use Rattle.sheet.proofs.Places.{opened_sound, layout_shape, sound-section}
+use Rattle.sheet.proofs.Places.{opened_sound, layout_mark, layout_shape, sound-section}
 -- what the check refuses does not open
 pub use Rattle.sheet.proofs.Places.{opened_refused}
 -- a section's terminals are those of its side
@@ -42,6 +42,7 @@ read_unopened b n h = let (why, checks, number) = read-refused b n h in (why, rw
 pub record Opens (b : List ℕ) (n : Layout) : Type 0 where
   pub checks : check_of b ≡ Ok tt
   pub reads : read b ≡ sound (sheet_of b)
+  pub mark : n.mark ≡ (sheet_of b).mark
   pub shape : n.shape ≡ shape (sheet_of b).columns (length (sheet_of b).top) (length (sheet_of b).bottom)
   pub top : terminals_in (bytes_of b n.top) ≡ (sheet_of b).top
   pub bottom : terminals_in (bytes_of b n.bottom) ≡ (sheet_of b).bottom
@@ -55,18 +56,19 @@ opens b n h =
     record {
       checks = checks;
       reads = reads;
+      mark = ap (λ (m : Layout). m.mark) laid ∙ layout_mark b;
       shape = ap (λ (m : Layout). m.shape) laid ∙ layout_shape b checks ∙ shape-read b (sheet_of b) reads;
       top = ap terminals_in (section Top) ∙ section-terminals b (sheet_of b) reads Top;
       bottom = ap terminals_in (section Bottom) ∙ section-terminals b (sheet_of b) reads Bottom;
     }
 
--- its length and its two parts make the sheet, of its shape
+-- its mark, its length and its two parts make the sheet, of its shape
 module _ (b : List ℕ) (n : Layout) (laws : Opens b n) (top bottom : List ℕ) (is_top : top ≡ bytes_of b n.top)
     (is_bottom : bottom ≡ bytes_of b n.bottom) where
-  pub same_sheet : sheet_in n.shape.columns top bottom ≡ sheet_of b
+  pub same_sheet : sheet_in n.mark n.shape.columns top bottom ≡ sheet_of b
   same_sheet =
       let columns : n.shape.columns ≡ (sheet_of b).columns = ap (λ (f : Shape). f.columns) laws.shape in
-      rw (columns, is_top, is_bottom, laws.top, laws.bottom)
+      rw (laws.mark, columns, is_top, is_bottom, laws.top, laws.bottom)
 
   pub same_shape : n.shape ≡ shape n.shape.columns (length (terminals_in top)) (length (terminals_in bottom))
   same_shape = laws.shape ∙ sym (ap (λ (s : Sheet). shape s.columns (length s.top) (length s.bottom)) same_sheet)
@@ -74,7 +76,7 @@ module _ (b : List ℕ) (n : Layout) (laws : Opens b n) (top bottom : List ℕ) 
 -- and so do its sections
 module _ (s : Bor (List ℕ)) (n : Layout) (laws : Opens s.now n) (m : Sections) (held : Held s n m) where
   pub held_sheet : sheet_held m ≡ sheet_of s.now
-  held_sheet = rw held.shape (same_sheet s.now n laws m.top.now m.bottom.now held.top.bytes held.bottom.bytes)
+  held_sheet = rw (held.mark, held.shape) (same_sheet s.now n laws m.top.now m.bottom.now held.top.bytes held.bottom.bytes)
 
   pub held_shape : m.shape ≡ shape m.shape.columns (length (terminals_in m.top.now)) (length (terminals_in m.bottom.now))
   held_shape = rw held.shape (same_shape s.now n laws m.top.now m.bottom.now held.top.bytes held.bottom.bytes)

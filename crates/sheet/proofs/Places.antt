@@ -102,6 +102,11 @@ module _ (b : List ℕ) (sounds : check_of b ≡ Ok tt) where
     unfolding section_at layout_of
     sound-at = rw sounds (min-eq_left (omega (arith, sound-room)) ∙ ap (λ (k : Part). k.at) e)
 
+-- the layout's mark is that of the sheet
+pub layout_mark : (b : List ℕ) → (layout_of b).mark ≡ (sheet_of b).mark
+unfolding layout_of sheet_of
+layout_mark b = refl
+
 -- what opening a sheet says of its check
 pub opened_sound : (b : List ℕ) (n : Layout) → opened_of b ≡ Ok n → (check_of b ≡ Ok tt) × (n ≡ layout_of b)
 unfolding opened_of

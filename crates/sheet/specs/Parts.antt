@@ -1,13 +1,14 @@
 -- The parts of a sheet's bytes: its shape, one side's section, one terminal's record (document 01, "The sheet").
 -- Assumes nothing.
 use Rattle.std.specs.Prelude.{ℕ, zero, suc, ◌+◌, ◌*◌, List, [], ◌∷◌, length, Result, Ok, Err, Option, Some, None}
+use Rattle.mark.specs.declared.Mark.{Mark}
 use Rattle.channel.specs.Sheet.{Terminal, Sheet, sheet_with, terminals}
 use Rattle.channel.specs.Sheet as channel
 use Rattle.terminal.specs.Terminal.{record_of}
 use Rattle.channel.specs.declared.Side.{Side}
 use Rattle.channel.specs.declared.Side.TheVariants.{Top, Bottom}
 use Rattle.trailer.specs.declared.Trailer.{Trailer}
-use Rattle.trailer.specs.Trailer.{trailer_of}
+use Rattle.trailer.specs.Trailer.{mark_or_CP, trailer_of}
 use Rattle.format.specs.Format.{part_of}
 use Rattle.format.specs.Parts.{bytes_of, terminals_in}
 use Rattle.soundness.specs.Check.{check_of}
@@ -42,11 +43,11 @@ shape_as (refused n) = no_shape
 unfoldable pub shape_of : List ℕ → Shape
 shape_of b = shape_as (read b)
 
--- a sound sheet's shape, and where the trailer says that its sections stand
+-- a sound sheet's mark and shape, and where the trailer says that its sections stand
 unfoldable pub layout_of : List ℕ → Layout
 layout_of b =
     let t : Trailer = trailer_of b in
-    record { shape = shape t.columns t.top.count t.bottom.count; top = t.top; bottom = t.bottom }
+    record { mark = mark_or_CP b; shape = shape t.columns t.top.count t.bottom.count; top = t.top; bottom = t.bottom }
 
 -- the sheet check's answer, with the layout of a sound sheet
 abbrev pub opened_as : List ℕ → Result Unit Refusal → Result Layout Refusal
@@ -72,9 +73,9 @@ section_at_as b side (Err why) = 0
 unfoldable pub section_at : List ℕ → Side → ℕ
 section_at b side = section_at_as b side (check_of b)
 
--- the sheet of a channel's length and two sections
-abbrev pub sheet_in : ℕ → List ℕ → List ℕ → Sheet
-sheet_in l top bottom = sheet_with l (terminals_in top) (terminals_in bottom)
+-- the sheet of a mark, a channel's length and two sections
+abbrev pub sheet_in : Mark → ℕ → List ℕ → List ℕ → Sheet
+sheet_in m l top bottom = sheet_with m l (terminals_in top) (terminals_in bottom)
 
 -- the record at a place, from 1
 abbrev pub nth : List Terminal → ℕ → Option Record

@@ -10,13 +10,14 @@ use Rattle.sheet.specs.Parts.{sheet_in}
 
 -- they are the caller's own slices, where the layout says that they stand
 pub record Held (s : Bor (List ℕ)) (n : Layout) (m : Sections) : Type 0 where
+  pub mark : m.mark ≡ n.mark
   pub shape : m.shape ≡ n.shape
   pub top : OwnPart s m.top (offset_of s.now n.top) (bytes_of s.now n.top)
   pub bottom : OwnPart s m.bottom (offset_of s.now n.bottom) (bytes_of s.now n.bottom)
 
 -- the sheet that they make
 abbrev pub sheet_held : Sections → Sheet
-sheet_held m = sheet_in m.shape.columns m.top.now m.bottom.now
+sheet_held m = sheet_in m.mark m.shape.columns m.top.now m.bottom.now
 
 -- the list is p+q long
 pub record Beside (m : Sections) (columns : List ℕ) : Type 0 where

@@ -3,6 +3,7 @@
 
 mod parts;
 
+use mark::Mark;
 pub use parts::{open, record_at, record_in, section, shape_of};
 use trailer::Part;
 
@@ -17,17 +18,19 @@ pub struct Shape {
     pub pins: usize,
 }
 
-// A sound sheet's shape, and where its two sections stand.
+// A sound sheet's mark and shape, and where its two sections stand.
 #[derive(Clone, Copy)]
 pub struct Layout {
+    pub mark: Mark,
     pub shape: Shape,
     pub top: Part,
     pub bottom: Part,
 }
 
-// The sections of a sound sheet, with its shape.
+// The sections of a sound sheet, with its mark and shape.
 #[derive(Clone, Copy)]
 pub struct Sections<'a> {
+    pub mark: Mark,
     pub shape: Shape,
     pub top: &'a [u8],
     pub bottom: &'a [u8],

@@ -8,10 +8,11 @@ ghost use Rattle.sheet.specs.Parts.{cells_of, layout_of, opened_of, shape_of, se
 
 use crate::{Layout, Sections, Shape};
 use format::{Side, count_in, part_in, terminal_at};
+use mark::Mark;
 use refusals::Refusal;
 use soundness::check;
 use terminal::Record;
-use trailer::{Part, read_trailer};
+use trailer::{Part, read_mark, read_trailer};
 
 // Checks the sheet, and gives all that is needed to read a sound one further: nothing of it asks for a second check.
 #[tactic(auto, unfolding(crate::specs::Parts::opened_of))]
@@ -28,6 +29,7 @@ impl Layout {
         ensures { Held s.entry self result }
     {
         Sections {
+            mark: self.mark,
             shape: self.shape,
             top: part_in(s, self.top),
             bottom: part_in(s, self.bottom),
@@ -53,7 +55,13 @@ fn layout_of(s: &[u8]) -> Layout
         cells: cells_needed(columns, p, q),
         pins: p + q,
     };
-    Layout { shape, top, bottom }
+    let mark = read_mark(s).unwrap_or(Mark::Cp);
+    Layout {
+        mark,
+        shape,
+        top,
+        bottom,
+    }
 }
 
 // The work cells that a search needs.

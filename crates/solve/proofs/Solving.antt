@@ -13,7 +13,6 @@ use Rattle.sheet.specs.declared.Shape.{Shape}
 use Rattle.sheet.specs.declared.Sections.{Sections}
 use Rattle.sheet.specs.Sections.{sheet_held}
 use Rattle.format.specs.Parts.{terminals_in}
-use Rattle.sheet.specs.Parts.{sheet_in}
 use Rattle.load.specs.Cuts.{Cell, LoadsRead}
 use Rattle.nets.specs.Nets.{nets_in}
 use Rattle.load.proofs.LoadOf.{load_of_lem, cell-top, cell-bottom, cell-both}
@@ -35,15 +34,16 @@ use Rattle.agreement.proofs.Walked.{walk_columns_lem}
 
 -- the loads of all cuts of two sections are those of their sheet
 pub loads_sheet :
-    (l : ℕ) (tops bottoms old new : List ℕ) → LoadsRead (nets_in tops) (nets_in bottoms) old new → SheetLoads (sheet_in l tops bottoms) new
-loads_sheet l tops bottoms old new a =
+    (m : Sections) (old new : List ℕ) → LoadsRead m.mark (nets_in m.top.now) (nets_in m.bottom.now) old new → SheetLoads (sheet_held m) new
+loads_sheet m old new a =
     record {
-      top = λ i j h hi hj. cell-top (cut i j hi hj) h ∙ sym (load_of_lem (sheet_in l tops bottoms) top i j);
-      bottom = λ i j hi h hj. cell-bottom (cut i j hi hj) h ∙ sym (load_of_lem (sheet_in l tops bottoms) bottom i j);
-      both = λ i j h hi g hj. cell-both (cut i j hi hj) h g ∙ sym (load_of_lem (sheet_in l tops bottoms) both i j);
+      top = λ i j h hi hj. cell-top (cut i j hi hj) h ∙ sym (load_of_lem (sheet_held m) top i j);
+      bottom = λ i j hi h hj. cell-bottom (cut i j hi hj) h ∙ sym (load_of_lem (sheet_held m) bottom i j);
+      both = λ i j h hi g hj. cell-both (cut i j hi hj) h g ∙ sym (load_of_lem (sheet_held m) both i j);
     }
   where
-    cut : (i j : ℕ) → i ≤ length (terminals_in tops) → j ≤ length (terminals_in bottoms) → Cell (nets_in tops) (nets_in bottoms) new i j
+    cut : (i j : ℕ) → i ≤ length (terminals_in m.top.now) → j ≤ length (terminals_in m.bottom.now)
+        → Cell m.mark (nets_in m.top.now) (nets_in m.bottom.now) new i j
     cut i j hi hj = a.cell i j (rw length-map hi) (rw length-map hj)
 
 -- the table's measures: four cells for each row fit a plane

@@ -52,7 +52,7 @@ fn find(sections: Sections, columns: &mut [u8], work: &mut [u16]) -> Option<u8>
     read_rules(top, &mut rules, Side::Top);
     read_rules(bottom, &mut rules, Side::Bottom);
     let mut loads = LoadTable::new();
-    load::read_loads(top, bottom, &mut loads);
+    load::read_loads(sections.mark, top, bottom, &mut loads);
     let pass = Pass {
         rules: &rules,
         loads: &loads,

@@ -3,7 +3,7 @@
 use Rattle.std.specs.Prelude.{ℕ, List, Result, Ok, Err}
 use Rattle.channel.specs.Sheet.{Sheet, sheet_with}
 use Rattle.refusals.specs.Refusals.{number_of}
-use Rattle.trailer.specs.Trailer.{trailer_of}
+use Rattle.trailer.specs.Trailer.{mark_or_CP, trailer_of}
 use Rattle.refusals.specs.declared.Refusal.{Refusal}
 use Rattle.soundness.specs.Check.{terminals_of, check_of}
 
@@ -11,9 +11,10 @@ pub data Read : Type 0 where
   sound : Sheet → Read
   refused : ℕ → Read
 
--- the trailer's L, and each side's records from its offset on
+-- the mark, the trailer's L, and each side's records from its offset on
 unfoldable pub sheet_of : List ℕ → Sheet
-sheet_of b = sheet_with (trailer_of b).columns (terminals_of b (trailer_of b).top) (terminals_of b (trailer_of b).bottom)
+sheet_of b =
+    sheet_with (mark_or_CP b) (trailer_of b).columns (terminals_of b (trailer_of b).top) (terminals_of b (trailer_of b).bottom)
 
 -- a sheet that is sound, or the number of the first refusal that applies
 abbrev pub read_as : Sheet → Result Unit Refusal → Read

@@ -9,7 +9,7 @@ use Rattle.channel.specs.Best.{best_of, best}
 use Rattle.channel.specs.Pairs.{Looser, BothFree}
 use Rattle.channel.proofs.Sets.{allows-below}
 use Rattle.little.specs.Little.{little}
-use Rattle.trailer.specs.Trailer.{trailer_of, has_mark}
+use Rattle.trailer.specs.Trailer.{trailer_of, has_mark, mark_of}
 use Rattle.format.specs.Format.{terminal_at, terminals_from}
 use Rattle.format.specs.Parts.{bytes_of, terminals_in}
 use Rattle.form.specs.Form.{laid_out, trailer_check, form_of}
@@ -66,13 +66,14 @@ later_free n =
 
 pub paired : Paired
 unfolding fits kind_of crosses nets_of column_density density word columns_of words best_of best little terminal_at terminals_from trailer_of
-    sheet_bytes has_mark bytes_of terminals_in laid_out trailer_check form_of terminal_check check_of sheet_of read answer_in searched_of columns_after
+    sheet_bytes has_mark mark_of bytes_of terminals_in laid_out trailer_check form_of terminal_check check_of sheet_of read answer_in searched_of columns_after
 paired =
     record {
       sheet_a_2_reads = refl;
       sheet_a_3_reads = refl;
       loosened =
           record {
+            mark = refl;
             columns = omega arith;
             top = (first_looser 1, (later_looser 2, tt));
             bottom = (first_looser 2, (later_looser 1, tt));
@@ -81,6 +82,7 @@ paired =
       sheet_a_5_reads = refl;
       lengthened =
           record {
+            mark = refl;
             columns = omega arith;
             room = omega arith;
             top = (first_free 1, (later_free 2, tt));

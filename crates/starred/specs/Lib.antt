@@ -1,2 +1,3 @@
 pub mod Sheets
 pub mod Table
+pub mod Counted

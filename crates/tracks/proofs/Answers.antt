@@ -4,7 +4,8 @@ use Rattle.std.proofs.Common.{Result, Ok, Err, ℕ, ◌≤◌, ◌<◌, ◌≡�
 use Rattle.std.proofs.Math.ListN.{length-map}
 use Rattle.std.proofs.Math.Seq.{take-length}
 use Rattle.tracked.specs.declared.TrackRefusal.{TrackRefusal}
-use Rattle.channel.specs.Density.{Pin, distinct}
+use Rattle.mark.specs.declared.Mark.{Mark}
+use Rattle.channel.specs.Density.{Pin, straight, distinct}
 use Rattle.channel.proofs.Spans.{length-distinct}
 use Rattle.left_edge.specs.declared.Span.{Span}
 use Rattle.left_edge.specs.Method.{left_edge, greatest}
@@ -34,14 +35,14 @@ module _ (ps : List Pin) (room : ℕ) (xs : List Span) (r : Result Routed TrackR
     gives-tracks h e spans = rw (one, le-ltb room (length xs) h) (e, rw (take-length xs) spans)
 
 -- the keys of the nets in order, and the spans that they stand for
-module _ (l : ℕ) (ps : List Pin) (ns keys : List ℕ) where
+module _ (m : Mark) (l : ℕ) (ps : List Pin) (ns keys : List ℕ) where
   pub keys_spans :
-      map interval_at keys ≡ map (interval_of l ps) (nets_by_left ps ns) → left_edge (map interval_at keys) ≡ spans_in l ps ns
+      map interval_at keys ≡ map (interval_of (straight m ns) l ps) (nets_by_left ps ns) → left_edge (map interval_at keys) ≡ spans_in m l ps ns
   unfolding spans_in
   keys_spans e = ap left_edge e
 
-  pub keys_count : keys ≡ keys_by_left l ps ns → (length keys ≡ length (spans_in l ps ns)) × (length keys ≤ length ns)
+  pub keys_count : keys ≡ keys_by_left m l ps ns → (length keys ≡ length (spans_in m l ps ns)) × (length keys ≤ length ns)
   keys_count e =
-      let all = length-map (nets_by_left ps ns) (key_in l ps) ∙ length-in_order (left_end ps) (distinct ns) in
-      let spans = spans-length ps ns l in
+      let all = length-map (nets_by_left ps ns) (key_in (straight m ns) l ps) ∙ length-in_order (left_end ps) (distinct ns) in
+      let spans = spans-length ps ns m l in
       (ap (λ (ks : List ℕ). length ks) e ∙ all ∙ sym spans, omega (arith, ap (λ (ks : List ℕ). length ks) e, all, length-distinct ns))

@@ -2,10 +2,9 @@
 -- Assumes nothing.
 use Rattle.std.proofs.Common.{Result, Ok, Err, ℕ, ◌≡◌, refl, sym, ◌∙◌, ap, subst, List, ◌++◌, Bool, true, false, cond, true≢false, arith, length, take, drop, pos, ltb, ltb-true, ltb-false}
 use Rattle.std.proofs.Math.Seq.{take-length}
-use Rattle.channel.specs.Sheet.{Sheet, Sound}
+use Rattle.channel.specs.Sheet.{Sheet, Sound, all_nets}
 use Rattle.channel.specs.Assignment.{is_assignment}
 use Rattle.channel.specs.Density.{Pin, pins, nets_of}
-use Rattle.channel.specs.Cut.{nets as terminal_nets}
 use Rattle.refusals.proofs.Refused.{list_number_some}
 use Rattle.soundness.specs.Read.{sheet_of}
 use Rattle.soundness.proofs.Laws.{read_checked, read-sound}
@@ -74,7 +73,7 @@ module _ (s : Sheet) (is : Sound s) (cs : List ℕ) (ok : is_assignment s cs ≡
               (
                 record {
                   routes = assignment_routes s is cs ok;
-                  ends = span-ends ps (terminal_nets (s.top ++ s.bottom)) s.columns;
+                  ends = span-ends ps (all_nets s) s.mark s.columns;
                   density = assignment_tracks s is cs ok;
                 },
                 (refl, left ∙ ap (λ (ys : List Span). ys ++ drop (length xs) spans) (take-length xs)),

@@ -11,7 +11,7 @@ use Rattle.left_edge.specs.Lists.{Each}
 use Rattle.left_edge.specs.Spans.{differ, two_nets}
 use Rattle.left_edge.proofs.Lists.{each_all}
 
--- a pin of another net was seen in the pin's column; a net has the mark one above it, and 0 is none
+-- a pin of another net was seen in the pin's column; a net stands there as one more than its number, and 0 is none
 abbrev hit : List ℕ → Pin → Bool
 hit seen p = not (eqb (get_or seen p.column 0) 0) && not (eqb (get_or seen p.column 0) (p.net + 1))
 

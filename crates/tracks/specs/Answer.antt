@@ -1,9 +1,9 @@
 -- What the tracks of a column list are, or why there are none (document 02, T-04).
 -- Assumes nothing.
 use Rattle.std.specs.Prelude.{ℕ, ◌≡◌, List, ◌++◌, cond, length, take, drop, ltb, Result, Ok, Err}
-use Rattle.channel.specs.Sheet.{Sheet}
+use Rattle.mark.specs.declared.Mark.{Mark}
+use Rattle.channel.specs.Sheet.{Sheet, all_nets}
 use Rattle.channel.specs.Density.{Pin, pins}
-use Rattle.channel.specs.Cut.{nets}
 use Rattle.soundness.specs.Read.{sheet_of}
 use Rattle.left_edge.specs.declared.Span.{Span}
 use Rattle.left_edge.specs.Method.{greatest}
@@ -48,10 +48,10 @@ spans_after b cs spans =
 abbrev pub Gives : Result Counts TrackRefusal → List Span → Result Routed TrackRefusal → Type 0
 Gives answer xs r = (counts_in r ≡ answer) × (spans_given r ≡ spans_with answer xs)
 
--- what is due of pins and their nets on a channel of l columns, with room for so many records
-abbrev pub GivesIn : ℕ → List Pin → List ℕ → ℕ → Result Routed TrackRefusal → Type 0
-GivesIn l ps ns room r = Gives (answer_for ps room (spans_in l ps ns)) (spans_in l ps ns) r
+-- what is due under a mark of pins and their nets on a channel of l columns, with room for so many records
+abbrev pub GivesIn : Mark → ℕ → List Pin → List ℕ → ℕ → Result Routed TrackRefusal → Type 0
+GivesIn m l ps ns room r = Gives (answer_for ps room (spans_in m l ps ns)) (spans_in m l ps ns) r
 
 -- of an assignment of a sheet
 abbrev pub GivesFor : Sheet → List ℕ → ℕ → Result Routed TrackRefusal → Type 0
-GivesFor s cs room r = GivesIn s.columns (pins (s.top ++ s.bottom) cs) (nets (s.top ++ s.bottom)) room r
+GivesFor s cs room r = GivesIn s.mark s.columns (pins (s.top ++ s.bottom) cs) (all_nets s) room r

@@ -2,9 +2,8 @@
 -- and of tracks and the amount that came with it, and of the caller's array before and after.
 -- Assumes nothing.
 use Rattle.std.specs.Prelude.{ℕ, ◌≤◌, ◌<◌, ◌≡◌, List, ◌++◌, true, false, length, drop, ℤ}
-use Rattle.channel.specs.Sheet.{Sheet}
-use Rattle.channel.specs.Density.{Pin, pins, crosses, nets_of, density}
-use Rattle.channel.specs.Cut.{nets as terminal_nets}
+use Rattle.channel.specs.Sheet.{Sheet, all_nets}
+use Rattle.channel.specs.Density.{Pin, pins, straight_in, crosses, nets_of, density}
 use Rattle.soundness.specs.Read.{read}
 use Rattle.soundness.specs.Read.Read.{sound}
 use Rattle.left_edge.specs.declared.Span.{Span}
@@ -18,7 +17,7 @@ use Rattle.list.specs.Returned as list
 pub record Spanned (s : Sheet) (columns : List ℕ) (xs : List Span) (tracks : ℕ) : Type 0 where
   pub routes :
       let ps : List Pin = pins (s.top ++ s.bottom) columns in
-      Routes s.columns (crosses ps) (nets_by_left ps (terminal_nets (s.top ++ s.bottom))) xs
+      Routes s.columns (crosses (straight_in s) ps) (nets_by_left ps (all_nets s)) xs
   pub ends :
       let ps : List Pin = pins (s.top ++ s.bottom) columns in
       Each (λ (x : Span). (x.left ≡ left_end ps x.net) × (x.right ≡ right_end s.columns ps x.net)) xs

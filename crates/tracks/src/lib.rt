@@ -56,7 +56,7 @@ fn route_nets(
     spans: &mut ArrayVec<Span, 128>,
 ) -> Result<u16, TrackRefusal>
     requires { Columns pins.columns.now l × (length pins.nets.now ≤ 128) }
-    ensures { GivesIn l (pins_in pins.entry) pins.entry.nets.now room (routed_of spans.new result) }
+    ensures { GivesIn pins.entry.mark l (pins_in pins.entry) pins.entry.nets.now room (routed_of spans.new result) }
 {
     if two_nets(pins) {
         return Err(TrackRefusal::TwoNets);
@@ -79,11 +79,11 @@ fn two_nets(pins: PinList) -> bool
     let mut seen: [u32; 256] = [0; 256];
     let mut found = false;
     for (net, column) in pins.nets.iter().zip(pins.columns) {
-        let mark = *net as u32 + 1;
+        let own = *net as u32 + 1;
         let place = *column as usize;
         let before = seen[place];
-        found |= (before != 0) & (before != mark);
-        seen[place] = mark;
+        found |= (before != 0) & (before != own);
+        seen[place] = own;
     }
     found
 }

@@ -1,7 +1,10 @@
 -- The trailer of a sheet's bytes (document 01, "The sheet").
 -- Assumes nothing.
-use Rattle.std.specs.Prelude.{ℕ, ◌+◌, ◌-◌, ◌≤◌, ◌<◌, ◌≡◌, List, [], ◌∷◌, Bool, ◌&&◌, length, get_or, leb, eqb}
+use Rattle.std.specs.Prelude.{ℕ, ◌+◌, ◌-◌, ◌≤◌, ◌<◌, ◌≡◌, List, Bool, ◌&&◌, length, get_or, cond, leb, eqb, Option, Some, None, unwrap_or}
 use Rattle.little.specs.Little.{little}
+use Rattle.mark.specs.declared.Mark.{Mark}
+use Rattle.mark.specs.declared.Mark.TheVariants.{Cp, Cq}
+use Rattle.mark.specs.Marks.{letters}
 use Rattle.trailer.specs.declared.Trailer.{Trailer}
 
 -- "Trailer: top section's offset (2), top terminals p (2), bottom section's offset (2), bottom terminals q (2), length L (2)"
@@ -24,11 +27,15 @@ pub record TrailerRead (b : List ℕ) (t : Trailer) : Type 0 where
   pub long : trailer_size ≤ length b → t ≡ trailer_of b
   pub short : length b < trailer_size → t ≡ record { top = record { at = 0; count = 0 }; bottom = record { at = 0; count = 0 }; columns = 0 }
 
--- "the last two bytes must be the letters": there are two, and they are those of the mark
+-- "the last two bytes must be the letters": there are two, and they are these
 unfoldable pub has_mark : List ℕ → List ℕ → Bool
-has_mark b mark =
-    leb 2 (length b) && eqb (get_or b (length b - 2) 0) (get_or mark 0 0) && eqb (get_or b (length b - 1) 0) (get_or mark 1 0)
+has_mark b letters =
+    leb 2 (length b) && eqb (get_or b (length b - 2) 0) (get_or letters 0 0) && eqb (get_or b (length b - 1) 0) (get_or letters 1 0)
 
--- the letters CP
-abbrev pub CP : List ℕ
-CP = 67 ∷ 80 ∷ []
+-- the mark of a sheet's bytes, or none: "2 now means neither mark"
+unfoldable pub mark_of : List ℕ → Option Mark
+mark_of b = cond (has_mark b (letters Cp)) (Some Cp) (cond (has_mark b (letters Cq)) (Some Cq) None)
+
+-- the same, and CP of bytes that have none, which 2 refuses
+abbrev pub mark_or_CP : List ℕ → Mark
+mark_or_CP b = unwrap_or (mark_of b) Cp

@@ -3,9 +3,10 @@
 #![tactic(auto)]
 
 ghost use Rattle.std.specs.Prelude.{◌≡◌};
-ghost use Rattle.trailer.specs.Trailer.{has_mark, TrailerRead};
+ghost use Rattle.trailer.specs.Trailer.{has_mark, mark_of, TrailerRead};
 
 use little::read_number;
+use mark::Mark;
 
 // Where one side's section stands in the sheet: its offset and its number of terminals.
 #[derive(Clone, Copy, Default)]
@@ -24,11 +25,25 @@ pub struct Trailer {
 
 pub const TRAILER: usize = 12;
 
-// Whether the last two bytes are the mark.
-pub fn has_mark(s: &[u8], mark: &[u8; 2]) -> bool
-    ensures { result ≡ has_mark s.now mark.now }
+// The mark, if the last two bytes are the letters of one.
+#[tactic(auto, unfolding(crate::specs::Trailer::mark_of))]
+pub fn read_mark(s: &[u8]) -> Option<Mark>
+    ensures { result ≡ mark_of s.now }
 {
-    s.ends_with(mark)
+    if has_mark(s, b"CP") {
+        Some(Mark::Cp)
+    } else if has_mark(s, b"CQ") {
+        Some(Mark::Cq)
+    } else {
+        None
+    }
+}
+
+// Whether the last two bytes are these letters.
+fn has_mark(s: &[u8], letters: &[u8; 2]) -> bool
+    ensures { result ≡ has_mark s.now letters.now }
+{
+    s.ends_with(letters)
 }
 
 // The trailer's numbers, from its bytes at the end, and all 0 where the file is shorter than a trailer: this call cannot fail, and `form`

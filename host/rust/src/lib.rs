@@ -31,6 +31,14 @@
 //! // T 2 stands in the column of T 1 and should be one to the right of it at the least
 //! assert_eq!(cazdrob::measure(&sheet, &[2, 2, 1, 3]), Err(cazdrob::Refusal::OutOfRange { amount: -1 }));
 //! assert_eq!(cazdrob::distance(2, 2, 1, 255), -1);
+//!
+//! // with the mark CQ a straight wire, such as net 1 above, counts in its column: no assignment has density 1
+//! let mut counted = sheet;
+//! counted[59] = b'Q';
+//! let best = searcher.assign(&counted)?;
+//! assert_eq!(best.density, 2);
+//! assert_eq!(best.columns, [1, 2, 1, 2]);
+//! assert_eq!(cazdrob::measure(&counted, &[2, 3, 1, 2]), Ok(2));
 //! # Ok::<(), cazdrob::Refusal>(())
 //! ```
 #![warn(missing_docs)]
@@ -164,7 +172,8 @@ pub fn search(sheet: &[u8], columns: &mut [u8], work: &mut [u16]) -> Result<u32,
 /// An assignment and its density.
 #[derive(Debug, Clone, PartialEq, Eq)]
 pub struct Assignment {
-    /// The greatest number of nets that cross a column. Nets above 60,000 leave the channel by an end and count in every column up to it.
+    /// The greatest number of nets that cross a column. Nets above 60,000 leave the channel by an end and count in every column up to it;
+    /// a plain net whose two pins share a column counts there if the sheet's mark is `CQ`, and not if it is `CP`.
     pub density: u32,
     /// The columns of the top terminals in order, then those of the bottom terminals.
     pub columns: Vec<u8>,
@@ -216,7 +225,8 @@ pub struct Span {
     pub left: u16,
     /// The column of its rightmost pin, or L where it leaves the channel at the right.
     pub right: u16,
-    /// Its track, from 1. It is 0 where the net crosses no column: a plain net with all its pins in one column takes no track.
+    /// Its track, from 1. It is 0 where the net crosses no column: a plain net with one pin takes no track, and neither does one whose two
+    /// pins share a column if the sheet's mark is `CP`.
     pub track: u16,
 }
 
@@ -363,7 +373,7 @@ pub struct Module {
 /// several with the first in this order.
 ///
 /// The sheet's assignments are the placements without overlap, one to one: where a module's left edge is in column e, its pin with offset
-/// o is in column e + o - 1.
+/// o is in column e + o - 1. The sheet's mark is `CP`.
 ///
 /// ```
 /// use cazdrob::{Module, Pin};
@@ -429,7 +439,7 @@ pub fn modules(length: usize, top: &[u8], bottom: &[u8], sheet: &mut [u8]) -> Re
 pub enum Refusal {
     /// 1: the sheet is shorter than 12 bytes.
     Short,
-    /// 2: its last two bytes are not the mark.
+    /// 2: its last two bytes are neither of the marks `CP` and `CQ`.
     Mark,
     /// 3: L is 0 or above 64.
     Length,
@@ -508,7 +518,7 @@ impl fmt::Display for Refusal {
     fn fmt(&self, f: &mut fmt::Formatter<'_>) -> fmt::Result {
         let why = match self {
             Refusal::Short => "the sheet is shorter than 12 bytes",
-            Refusal::Mark => "the last two bytes differ from the mark",
+            Refusal::Mark => "the last two bytes are neither CP nor CQ",
             Refusal::Length => "L is 0 or above 64",
             Refusal::Count => "p or q is above 64",
             Refusal::Layout => "the sheet's length or the sections' offsets differ from the rule",

@@ -11,5 +11,5 @@ returns c =
     let s = c.args.listed.sections in
     let columns = ap (λ (b : Bor (List ℕ)). b.now) c.pins-pins.ensures.columns in
     rw (c.pins-pins.ensures.nets, columns) at c.list_over.ensures
-    ∙ side_by_side s.shape.columns (terminals_in s.top.now) (terminals_in s.bottom.now) c.args.listed.columns.now s.shape.top
+    ∙ side_by_side s.mark s.shape.columns (terminals_in s.top.now) (terminals_in s.bottom.now) c.args.listed.columns.now s.shape.top
     c.args.listed.beside.tops

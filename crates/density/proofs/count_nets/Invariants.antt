@@ -6,4 +6,4 @@ use Rattle.density.proofs.Sums.{Counted}
 use Rattle.density.proofs.count_nets.Given as goal
 
 abbrev pub invariant-loop-net : goal.invariant-loop-net
-invariant-loop-net l = Counted l.pins.nets.now l.pins.columns.now (nets_left l.net-iterator) l.counts
+invariant-loop-net l = Counted l.pins.mark l.pins.nets.now l.pins.columns.now (nets_left l.net-iterator) l.counts

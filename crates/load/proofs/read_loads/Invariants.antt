@@ -1,7 +1,7 @@
 -- `load::read_loads` meets its contract. The loop's invariant: the nets so far, with those that are still to come, are all of them.
 -- Assumes nothing.
 use Rattle.std.proofs.Common.{◌≡◌, ◌++◌, ◌+◌, ◌≤◌, length}
-use Rattle.channel.specs.Cut.{nets as nets_of}
+use Rattle.channel.specs.Sheet.{nets as nets_of}
 use Rattle.format.specs.Parts.{terminals_in}
 use Rattle.nets.specs.Left.{nets_to_come}
 use Rattle.load.proofs.read_loads.Given as goal

@@ -2,7 +2,7 @@
 -- Assumes nothing.
 use Rattle.std.proofs.Common.{◌≡◌, ℕ, ◌*◌, List, ◌++◌, length, sym, ap, ◌∙◌, ap₂, arith, rules}
 use Rattle.text.proofs.Writes.{behind, same_written}
-use Rattle.trailer.specs.Trailer.{CP}
+use Rattle.mark.specs.declared.Mark.TheVariants.{Cp}
 use Rattle.format.specs.Format.{record_size}
 use Rattle.encode.specs.Encode.{section_bytes, trailer_bytes, top_first, sheet_bytes}
 use Rattle.encode.proofs.Lengths.{length-section}
@@ -18,11 +18,11 @@ length-side ms = length-section (side_terminals ms) ∙ ap (λ (n : ℕ). record
 -- the three make the sheet
 sheet-bytes :
     (l p q : ℕ) (top bottom : List Module) → p ≡ pin_count top → q ≡ pin_count bottom
-    → section_bytes (side_terminals top) ++ section_bytes (side_terminals bottom) ++ trailer_bytes (top_first l p q) CP
-    ≡ sheet_bytes CP (module_sheet l top bottom)
+    → section_bytes (side_terminals top) ++ section_bytes (side_terminals bottom) ++ trailer_bytes (top_first l p q) Cp
+    ≡ sheet_bytes (module_sheet l top bottom)
 unfolding sheet_bytes
 sheet-bytes l p q top bottom e f =
-    ap₂ (λ (m n : ℕ). section_bytes (side_terminals top) ++ section_bytes (side_terminals bottom) ++ trailer_bytes (top_first l m n) CP)
+    ap₂ (λ (m n : ℕ). section_bytes (side_terminals top) ++ section_bytes (side_terminals bottom) ++ trailer_bytes (top_first l m n) Cp)
     (e ∙ sym (length-terminals top)) (f ∙ sym (length-terminals bottom))
 
 pub put_modules-requires-2 : goal.put_modules-requires-2

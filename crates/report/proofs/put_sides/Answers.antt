@@ -1,6 +1,6 @@
 -- `report::put_sides` meets its contract: the lines of the two sections are those of the sheet.
 -- Assumes nothing.
-use Rattle.format.specs.Parts.{terminals_in}
+use Rattle.sheet.specs.Sections.{sheet_held}
 use Rattle.text.proofs.Writes.{behind, same_written}
 use Rattle.report.proofs.Sides.{side-lines}
 use Rattle.report.proofs.put_sides.Goals as goal
@@ -9,6 +9,5 @@ pub returns-clause-wrote : goal.returns-clause-wrote
 returns-clause-wrote c =
     let m = c.args.sections in
     same_written
-    (side-lines (terminals_in m.top.now) (terminals_in m.bottom.now) m.shape.columns m.shape.top c.args.columns.now c.requires.0
-    c.requires.1)
+    (side-lines (sheet_held m) m.shape.top c.args.columns.now c.requires.0 c.requires.1)
     (behind c.put_side.ensures.wrote c.put_side-2.ensures.wrote)

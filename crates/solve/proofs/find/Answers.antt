@@ -26,7 +26,7 @@ invariant_of-pass c =
           (rules_kept 0 1 (terminals_in a.sections.top.now) (terminals_in a.sections.bottom.now) _ _ (λ e. omega arith)
           c.requires.sound.counts.0 c.read_rules.ensures.rules c.read_rules-2.ensures)
           c.read_rules-2.ensures.rules
-          (loads_sheet a.sections.shape.columns a.sections.top.now a.sections.bottom.now _ _ c.read_loads.ensures);
+          (loads_sheet a.sections _ _ c.read_loads.ensures);
     }
 
 pub place-requires : goal.place-requires
@@ -43,5 +43,5 @@ returns c =
     (rules_kept 0 1 (terminals_in a.sections.top.now) (terminals_in a.sections.bottom.now) _ _ (λ e. omega arith) c.requires.sound.counts.0
     c.read_rules.ensures.rules c.read_rules-2.ensures)
     c.read_rules-2.ensures.rules
-    (loads_sheet a.sections.shape.columns a.sections.top.now a.sections.bottom.now _ _ c.read_loads.ensures) _ _ _
+    (loads_sheet a.sections _ _ c.read_loads.ensures) _ _ _
     c.place.ensures

@@ -3,7 +3,7 @@
 use Rattle.std.proofs.Common.{ℕ, List, ◌++◌, sym, ap, subst}
 use Rattle.std.specs.Borrow.{Bor}
 use Rattle.channel.specs.Density.{Pin}
-use Rattle.channel.specs.Cut.{nets}
+use Rattle.channel.specs.Sheet.{nets}
 use Rattle.format.specs.Parts.{terminals_in}
 use Rattle.ends.proofs.Pins.{pins-nets}
 use Rattle.tracked.specs.Routed.{routed_of}
@@ -18,5 +18,5 @@ returns c =
     let r = routed_of c.route_nets.new.spans c.route_nets.result in
     let pins = c.pins-pins.ensures in
     let columns = ap (λ (b : Bor (List ℕ)). b.now) pins.columns in
-    subst (λ (ps : List Pin). GivesIn s.shape.columns ps (nets terminals) a.room r) (sym (pins-nets terminals a.listed.columns.now))
-    (rw (columns, pins.nets) at c.route_nets.ensures)
+    subst (λ (ps : List Pin). GivesIn s.mark s.shape.columns ps (nets terminals) a.room r) (sym (pins-nets terminals a.listed.columns.now))
+    (rw (pins.mark, columns, pins.nets) at c.route_nets.ensures)

@@ -17,23 +17,23 @@ returns-then-two_nets c =
 pub returns-then-room-len : goal.returns-then-room-len
 returns-then-room-len c =
     let pins = c.args.pins in
-    let (count, _) = keys_count c.args.l (pins_in pins) pins.nets.now _ c.order_nets.ensures.keys in
+    let (count, _) = keys_count pins.mark c.args.l (pins_in pins) pins.nets.now _ c.order_nets.ensures.keys in
     gives-short _ _ _ (Err SpanBuffer) (sym c.two_nets.ensures ∙ c.if-two_nets.false) (omega (arith, c.if-room-len.true, count)) (refl, refl)
 
 pub route_keys-requires : goal.route_keys-requires
 route_keys-requires c =
     let pins = c.args.pins in
     let now = c.deref.ensures.0 in
-    let (_, few) = keys_count c.args.l (pins_in pins) pins.nets.now _ c.order_nets.ensures.keys in
+    let (_, few) = keys_count pins.mark c.args.l (pins_in pins) pins.nets.now _ c.order_nets.ensures.keys in
     (omega (arith, ap (λ (ks : List ℕ). length ks) now, few, c.requires.1), rw now c.order_nets.ensures.start)
 
 pub returns : goal.returns
 returns c =
     let pins = c.args.pins in
     let keys = c.order_nets.ensures in
-    let (count, _) = keys_count c.args.l (pins_in pins) pins.nets.now _ keys.keys in
+    let (count, _) = keys_count pins.mark c.args.l (pins_in pins) pins.nets.now _ keys.keys in
     let edge = ap (λ (ks : List ℕ). left_edge (map interval_at ks)) c.deref.ensures.0
-    ∙ keys_spans c.args.l (pins_in pins) pins.nets.now _ keys.intervals in
+    ∙ keys_spans pins.mark c.args.l (pins_in pins) pins.nets.now _ keys.intervals in
     let spans = c.route_keys.ensures.spans ∙ edge in
     let tracks = c.route_keys.ensures.tracks ∙ ap greatest edge in
     gives-tracks _ _ _ (routed_of c.route_keys.new.spans (Ok c.route_keys.result)) (sym c.two_nets.ensures ∙ c.if-two_nets.false) (omega (arith, c.if-room-len.false, count))

@@ -45,4 +45,4 @@ ends_at s (a ∷ b ∷ []) h = by_length (leb 2 (length s)) refl
 ends_at s (a ∷ b ∷ c ∷ l) h = absurd (omega arith)
 
 pub returns : goal.returns
-returns c = c.ends_with.ensures.value ∙ ends_at _ _ c.told-mark
+returns c = c.ends_with.ensures.value ∙ ends_at _ _ c.told-letters

@@ -1,6 +1,6 @@
 //! The test of one set against the channel's end on all lengths and all kinds of sets, alone and in every record of a sheet.
 use crate::draw::{sheet_of, Draw};
-use crate::reference::{beyond, Channel, Terminal};
+use crate::reference::{beyond, Channel, Mark, Terminal};
 use cazdrob::{Refusal, Searcher};
 
 /// How many sets named a column above the length, how many did not, and how many of each had the length as their last column or the one
@@ -87,8 +87,8 @@ fn sets_in_every_record() {
             for record in 0..5 {
                 let side =
                     |first: usize, count: usize| (0..count).map(|k| terminal(k, if first + k == record { set } else { 0 })).collect();
-                let channel = Channel { length, top: side(0, 3), bottom: side(3, 2) };
-                for bottom_first in [false, true] {
+                for (bottom_first, mark) in [false, true].into_iter().zip(Mark::BOTH) {
+                    let channel = Channel { mark, length, top: side(0, 3), bottom: side(3, 2) };
                     let sheet = sheet_of(&channel, bottom_first);
                     assert_eq!(cazdrob::check(&sheet), answer, "set {set:#x} on {length} columns in record {record}");
                     assert_eq!(cazdrob::cells(&sheet) == 0, beyond);
@@ -107,8 +107,8 @@ fn each_bit_is_its_column() {
     for length in 1..=64 {
         for column in 1..=length {
             let one = vec![Terminal { net: 1, least: 0, greatest: 0, set: 1 << (column - 1) }];
-            for (top, bottom) in [(one.clone(), vec![]), (vec![], one)] {
-                let sheet = sheet_of(&Channel { length, top, bottom }, false);
+            for (mark, (top, bottom)) in Mark::BOTH.into_iter().zip([(one.clone(), vec![]), (vec![], one)]) {
+                let sheet = sheet_of(&Channel { mark, length, top, bottom }, false);
                 assert_eq!(searcher.assign(&sheet).map(|best| best.columns), Ok(vec![column as u8]));
             }
         }

@@ -1,10 +1,10 @@
-//! Chains of vertical constraints: the longest one and the bound, the lowest net on a circle, and what is refused before.
+//! Chains of vertical constraints under both marks: the longest one and the bound, the lowest net on a circle, and what is refused before.
 use crate::damaged::damage;
 use crate::draw::{constrained, sheet_of, Draw};
 use crate::known::free;
 use crate::leaving::{count_kinds, held, BOUNDS};
 use crate::lent::{Held, Seen};
-use crate::reference::{leaves, longest_chain, longest_from, names, on_circles, reached, Chained, Channel, Over};
+use crate::reference::{leaves, longest_chain, longest_from, names, on_circles, reached, Chained, Channel, Mark, Over};
 use crate::sound::every_call;
 use crate::tracks::{add, spoil, KINDS};
 use cazdrob::{Chain, Refusal, Searcher};
@@ -24,6 +24,8 @@ struct Chains {
     longest: [u32; 7],
     /// The chain is shorter than the density, as long, longer.
     bound: [u32; 3],
+    /// On a CP sheet, on a CQ sheet.
+    marks: [u32; 2],
     /// The chain would be longer if plain nets with one pin were over others, under others.
     plain_one_pin: [u32; 2],
     /// The chain would be shorter if leaving nets with one pin were over none, under none.
@@ -64,6 +66,7 @@ impl Chains {
         add(&mut self.longest, &[0..=0, 2..=2, 3..=7, 8..=31, 32..=63, 64..=64, 65..=65].map(|group| group.contains(&chain)));
         let density = channel.density(list);
         add(&mut self.bound, &[chain < density, chain == density, chain > density]);
+        add(&mut self.marks, &Mark::BOTH.map(|mark| channel.mark == mark));
 
         let of_two: Vec<Over> = pairs.iter().copied().filter(|(above, below)| above != below).collect();
         let longest = |counts: &dyn Fn(&Over) -> bool| longest_chain(&of_two.iter().copied().filter(counts).collect::<Vec<Over>>());
@@ -91,10 +94,10 @@ impl Chains {
     }
 
     fn floors(&self, times: u32) {
-        let Chains { sizes, kinds, bounds, longest, bound, plain_one_pin, leaving_one_pin, one_pass, branches, bytes, .. } = self;
+        let Chains { sizes, kinds, bounds, longest, bound, marks, plain_one_pin, leaving_one_pin, one_pass, branches, bytes, .. } = self;
         let one = [self.repeated, self.over_itself];
         let ends = [&plain_one_pin[..], leaving_one_pin];
-        for counts in [&sizes[..], kinds, bounds, longest, bound, one_pass, branches, bytes, &one].into_iter().chain(ends) {
+        for counts in [&sizes[..], kinds, bounds, longest, bound, marks, one_pass, branches, bytes, &one].into_iter().chain(ends) {
             assert!(counts.iter().all(|count| *count > times), "{counts:?}");
         }
     }
@@ -222,7 +225,7 @@ fn drawn_assignments() {
     }
     seen.print("drawn assignments with constraints");
     println!("  {chains:?}\n  {circles:?}\n  with one that applied too: {also:?}");
-    assert!(chains.all > 9_000 && circles.all > 4_000);
+    assert!(chains.all > 9_000 && circles.all > 4_000 && seen.straight.bound > 200);
     chains.floors(40);
     circles.floors(25);
     for number in [0, 12, 13, 14, 19] {
@@ -271,7 +274,7 @@ fn searched_assignments() {
         searcher = every_call(&mut draw, &channel, Some(list), searcher, &mut seen);
     }
     seen.print("searched assignments with constraints");
-    assert!(seen.chain[0] > 3_000 && seen.chain[19] > 500);
+    assert!(seen.chain[0] > 3_000 && seen.chain[19] > 500 && seen.straight.bound > 100);
 }
 
 /// Every channel of few columns where each column has a pin of one of the nets, or none, on each side.
@@ -291,12 +294,19 @@ fn every_assignment_of_few_columns() {
                 }
             }
             let (channel, list) = held(columns as u8, &top, &bottom);
-            let answer = Held::new(sheet_of(&channel, false)).chain(&mut draw, &list, &mut seen);
+            let [answer, counted] = Mark::BOTH.map(|mark| {
+                let held = Held::new(sheet_of(&channel.under(mark), false));
+                held.chain(&mut draw, &list, &mut seen)
+            });
+            // what lies over what is the same under both marks; the bound is no lower where straight wires count
+            assert_eq!((answer.number, answer.net, answer.chain), (counted.number, counted.net, counted.chain));
+            assert!(answer.bound <= counted.bound);
             *by_answer.entry((answer.net, answer.chain)).or_default() += 1;
         }
     }
     println!("every assignment of few columns, by net and chain: {by_answer:?}");
     assert_eq!(by_answer.values().sum::<u32>(), 6_561 + 65_536 + 46_656);
+    assert!(seen.straight.bound > 2_000);
     for answer in [(2, 0), (3, 0), (7, 0), (300, 0), (60_000, 0), (0, 0), (0, 2), (0, 3), (0, 4)] {
         assert!(by_answer.get(&answer).is_some_and(|times| *times > 10), "{answer:?}");
     }
@@ -323,11 +333,16 @@ fn refused(number: u32, amount: i32) -> Chained {
     Chained { number, amount, ..Chained::default() }
 }
 
-/// Holds two rows of pins in columns 1, 2 and so on, where net 0 is no pin, to this answer.
-fn rows(top: &[u16], bottom: &[u16], wanted: Chained) {
+/// Holds two rows of pins in columns 1, 2 and so on, where net 0 is no pin, to this answer on a sheet with this mark.
+fn rows_under(mark: Mark, top: &[u16], bottom: &[u16], wanted: Chained) {
     let pins = |row: &[u16]| row.iter().copied().zip(1..).filter(|(net, _)| *net != 0).collect::<Vec<(u16, u8)>>();
     let (channel, list) = held(top.len() as u8, &pins(top), &pins(bottom));
-    hold_chain(&channel, &list, wanted);
+    hold_chain(&channel.under(mark), &list, wanted);
+}
+
+/// The same under both marks.
+fn rows(top: &[u16], bottom: &[u16], wanted: Chained) {
+    Mark::BOTH.into_iter().for_each(|mark| rows_under(mark, top, bottom, wanted));
 }
 
 #[test]
@@ -342,6 +357,12 @@ fn known_chains() {
     hold_chain(&sheet_a, &[1, 2, 1], refused(12, 0));
     hold_chain(&free(1, &[], &[]), &[], no_circle(0, 0));
     hold_chain(&free(64, &[], &[]), &[], no_circle(0, 0));
+    let counted = sheet_a.under(Mark::Cq);
+    hold_chain(&counted, &[2, 3, 1, 2], no_circle(0, 2));
+    hold_chain(&counted, &[1, 2, 2, 3], no_circle(0, 2));
+    hold_chain(&counted, &[1, 2, 1, 2], circle(1));
+    hold_chain(&counted, &[1, 3, 1, 2], no_circle(2, 2));
+    hold_chain(&counted, &[2, 2, 1, 2], refused(14, -1));
 
     // the constraints of figure 1 of Chao and Harper, with its nets 5 to 7 leaving at the left and 1 to 3 at the right
     rows(&[60_005, 60_006, 60_007, 4, 4, 4], &[4, 4, 4, 62_001, 62_002, 62_003], no_circle(3, 4));
@@ -349,6 +370,26 @@ fn known_chains() {
     rows(&[0, 1, 4, 5, 1, 6, 7, 0, 4, 9, 10, 10], &[2, 3, 5, 3, 5, 2, 6, 8, 9, 8, 7, 9], no_circle(4, 5));
     // upside down the chain is as long
     rows(&[2, 3, 5, 3, 5, 2, 6, 8, 9, 8, 7, 9], &[0, 1, 4, 5, 1, 6, 7, 0, 4, 9, 10, 10], no_circle(4, 5));
+}
+
+/// A straight wire lies over no net, and none over it. On a CQ sheet it counts in the density, and so in the bound.
+#[test]
+fn straight_wires() {
+    let both = |top: &[u16], bottom: &[u16], chain: u32, bounds: [u32; 2]| {
+        Mark::BOTH.into_iter().zip(bounds).for_each(|(mark, bound)| rows_under(mark, top, bottom, no_circle(chain, bound)));
+    };
+    both(&[1], &[1], 0, [0, 1]);
+    both(&[1, 2, 3], &[1, 2, 3], 0, [0, 1]);
+    // under net 2, which runs over it
+    both(&[2, 1, 2], &[0, 1, 0], 0, [1, 2]);
+    // the chain is longer than the density, straight wire and all
+    both(&[2, 2, 3, 5, 4], &[0, 3, 4, 5, 0], 3, [3, 3]);
+    // the density is greater, but for the straight wire as great as the chain
+    both(&[1, 5, 1, 1], &[2, 5, 2, 0], 2, [2, 3]);
+    // a circle is one with straight wires beside it
+    rows(&[1, 2, 3], &[2, 1, 3], circle(1));
+    // a net with one pin counts nowhere, over another or alone
+    both(&[1, 0], &[2, 0], 0, [0, 0]);
 }
 
 #[test]
@@ -402,6 +443,8 @@ fn known_circles() {
     let mut sheet = sheet_of(&channel, false);
     assert_eq!(cazdrob::chain(&sheet, &list), Err(Refusal::Circle { net: 1 }));
     let last = sheet.len() - 1;
+    sheet[last] = b'Q';
+    assert_eq!(cazdrob::chain(&sheet, &list), Err(Refusal::Circle { net: 1 }));
     sheet[last] = b'X';
     assert_eq!(cazdrob::chain(&sheet, &list), Err(Refusal::Mark));
 }
@@ -427,9 +470,14 @@ fn every_length() {
                 // the last over the first
                 let around = &nets[..nets.len() - 1];
                 let turned = [&around[1..], &around[..1]].concat();
-                let wanted = if columns == 1 { no_circle(0, u32::from(leaving)) } else { circle(*around.iter().min().unwrap()) };
-                rows(around, &turned, wanted);
-                rows(&backwards(around), &backwards(&turned), wanted);
+                let lowest = *around.iter().min().unwrap();
+                for mark in Mark::BOTH {
+                    // alone, a net lies over itself in its one column
+                    let alone = no_circle(0, u32::from(leaving || mark == Mark::Cq));
+                    let wanted = if columns == 1 { alone } else { circle(lowest) };
+                    rows_under(mark, around, &turned, wanted);
+                    rows_under(mark, &backwards(around), &backwards(&turned), wanted);
+                }
             }
         }
     }

@@ -1,7 +1,8 @@
 //! Sheets that are not sound, or hardly: what is refused, with which number, and which of several faults is named.
 use crate::draw::{all_columns, channel, channel_up_to, sheet_of, Draw};
+use crate::known::free;
 use crate::lent::{Held, Seen};
-use crate::reference::read;
+use crate::reference::{read, Mark};
 
 /// Every call on the bytes, with buffers long enough for a sound sheet of this shape, or not.
 fn every_call(draw: &mut Draw, sheet: Vec<u8>, seen: &mut Seen) {
@@ -60,6 +61,9 @@ fn damage_trailer(draw: &mut Draw, sheet: &mut [u8]) {
     put(sheet, at, draw.of(&new));
 }
 
+/// Letters that are nearly a mark.
+const NO_MARKS: [[u8; 2]; 12] = [*b"CX", *b"CR", *b"CO", *b"CW", *b"QC", *b"PC", *b"cq", *b"cp", *b"CC", *b"PP", *b"QQ", *b"C\0"];
+
 pub fn damage(draw: &mut Draw, sheet: &mut Vec<u8>) {
     let len = sheet.len();
     let records = len / 12 - usize::from(len >= 12);
@@ -70,7 +74,12 @@ pub fn damage(draw: &mut Draw, sheet: &mut Vec<u8>) {
         3 => drop(sheet.drain(..draw.between(1, 14).min(len))),
         4 => sheet.insert(draw.between(0, len), draw.byte()),
         5 => sheet.extend((0..draw.between(1, 24)).map(|_| draw.byte()).collect::<Vec<u8>>()),
-        6 if len >= 2 => sheet[len - 2..].copy_from_slice(&draw.of(&[*b"CX", *b"CW", *b"PC", *b"cp", *b"CC", *b"PP", *b"C\0"])),
+        6 if len >= 2 => {
+            // the other mark too, with which the sheet is as sound as it was
+            let other = draw.of(&Mark::BOTH).letters();
+            let none = draw.of(&NO_MARKS);
+            sheet[len - 2..].copy_from_slice(if draw.once_in(4) { &other } else { &none });
+        }
         7 | 8 if len >= 12 => damage_trailer(draw, sheet),
         9 if len >= 12 => {
             // the offsets exchanged
@@ -168,7 +177,7 @@ fn trailer_fields_off_by_one() {
                     }
                 }
                 for at in sheet.len() - 2..sheet.len() {
-                    for step in [2, 255, 32] {
+                    for step in [1, 255, 2, 254, 32] {
                         let mut other = sheet.clone();
                         other[at] = other[at].wrapping_add(step);
                         every_call(&mut draw, other, &mut seen);
@@ -181,20 +190,71 @@ fn trailer_fields_off_by_one() {
     assert!(seen.check[0] > 200 && seen.check[2] > 800 && seen.check[3] > 200 && seen.check[4] > 100 && seen.check[5] > 1_000);
 }
 
+/// Every two letters at the end of a sheet, on small sheets: all but the two marks are refused.
+#[test]
+fn every_two_letters() {
+    let mut draw = Draw::new(18);
+    let mut seen = Seen::default();
+    for (length, top, bottom) in [(1, &[][..], &[][..]), (3, &[1, 2], &[2, 1])] {
+        let sheet = sheet_of(&free(length, top, bottom), false);
+        for letters in 0..=65_535u16 {
+            let mut other = sheet.clone();
+            put(&mut other, sheet.len() - 2, letters.into());
+            let [first, second] = letters.to_le_bytes();
+            // every call where one letter is that of a mark
+            if first == b'C' || second == b'P' || second == b'Q' {
+                every_call(&mut draw, other, &mut seen);
+            } else {
+                Held::new(other).check(&mut draw, &mut seen);
+            }
+        }
+    }
+    seen.print("every two letters");
+    assert_eq!((seen.check[0], seen.check[2]), (2 * 2, 2 * 65_534));
+    assert!(seen.search[0] >= 4 && seen.search[2] > 1_000 && seen.measure[2] > 1_000);
+    assert!(seen.tracks[2] > 1_000 && seen.chain[2] > 1_000);
+}
+
+/// The two marks exchanged: whatever else is wrong with a sheet is refused as it was.
+#[test]
+fn the_marks_exchanged() {
+    let mut draw = Draw::new(19);
+    let mut seen = Seen::default();
+    for _ in 0..40_000 {
+        let (channel, _) = channel_up_to(&mut draw, 10, 4, 4);
+        let mut sheet = sheet_of(&channel, draw.once_in(2));
+        for _ in 0..draw.of(&[0, 1, 2]) {
+            damage(&mut draw, &mut sheet);
+        }
+        let number = cazdrob::check(&sheet).map_err(|r| r.number());
+        if matches!(number, Err(1 | 2)) {
+            continue;
+        }
+        let last = sheet.len() - 1;
+        sheet[last] = if sheet[last] == b'P' { b'Q' } else { b'P' };
+        assert_eq!(cazdrob::check(&sheet).map_err(|r| r.number()), number);
+        every_call(&mut draw, sheet, &mut seen);
+    }
+    seen.print("the marks exchanged");
+    for number in [0, 3, 4, 5, 6, 7, 8] {
+        assert!(seen.check[number] > 500, "{number}");
+    }
+}
+
 /// Every short length and the lengths around the longest sheet: random bytes, with more and more of the trailer put right.
 #[test]
 fn every_length() {
     let mut draw = Draw::new(14);
     let mut seen = Seen::default();
     for len in (0..=100).chain(760..=810).chain(1_500..=1_600) {
-        for _ in 0..60 {
+        for _ in 0..80 {
             let mut sheet: Vec<u8> = (0..len).map(|_| draw.byte()).collect();
             if len >= 12 {
                 let right = draw.between(0, 5);
                 let trailer = len - 12;
                 let terminals = trailer / 12;
                 if right >= 1 {
-                    sheet[len - 2..].copy_from_slice(b"CP");
+                    sheet[len - 2..].copy_from_slice(&draw.of(&Mark::BOTH).letters());
                 }
                 let length = draw.between(1, if terminals > 10 { 8 } else { 64 });
                 if right >= 2 {
@@ -228,7 +288,7 @@ fn every_length() {
         }
     }
     seen.print("every length");
-    assert_eq!(seen.check[1], 12 * 60);
+    assert_eq!(seen.check[1], 12 * 80);
     for number in (0..=8).filter(|number| *number != 1) {
         assert!(seen.check[number] > 50, "{number}");
     }

@@ -1,6 +1,6 @@
 //! The test of one distance on all kinds of bytes, and the calls that use it.
 use crate::draw::{sheet_of, Draw};
-use crate::reference::{amount, within, Channel, Terminal};
+use crate::reference::{amount, within, Channel, Mark, Terminal};
 use cazdrob::{Refusal, Searcher};
 
 /// How often the distance was too short, in range and too long, and how often it broke both bounds, so that the order of the two decides.
@@ -76,8 +76,8 @@ fn searches_and_measurements_of_two_columns() {
                 for greatest in BOUNDS.into_iter().skip(k) {
                     let amount = hold(&mut seen, [before, column, least, greatest]);
                     let pair = vec![terminal(0, 0, 1 << (before - 1)), terminal(least, greatest, 1 << (column - 1))];
-                    for (top, bottom) in [(pair.clone(), vec![]), (vec![], pair)] {
-                        let sheet = sheet_of(&Channel { length: 64, top, bottom }, false);
+                    for (mark, (top, bottom)) in Mark::BOTH.into_iter().zip([(pair.clone(), vec![]), (vec![], pair)]) {
+                        let sheet = sheet_of(&Channel { mark, length: 64, top, bottom }, false);
                         let assigned = searcher.assign(&sheet).map(|best| best.columns);
                         let measured = cazdrob::measure(&sheet, &[before, column]).map(|_| ());
                         if amount == 0 {

@@ -1,5 +1,5 @@
 //! Drawn numbers, sheets and modules; the same seed draws the same.
-use crate::reference::{Channel, Terminal};
+use crate::reference::{Channel, Mark, Terminal};
 use cazdrob::{Module, Pin};
 
 /// SplitMix64.
@@ -49,7 +49,7 @@ pub fn sheet_of(channel: &Channel, bottom_first: bool) -> Vec<u8> {
     for field in [top_at, channel.top.len(), bottom_at, channel.bottom.len(), channel.length] {
         sheet.extend((field as u16).to_le_bytes());
     }
-    sheet.extend(b"CP");
+    sheet.extend(channel.mark.letters());
     sheet
 }
 
@@ -132,7 +132,7 @@ pub fn channel(draw: &mut Draw, length: usize, p: usize, q: usize) -> (Channel, 
     let (top, top_columns) = side(draw, p);
     let (bottom, bottom_columns) = side(draw, q);
     let list = top_columns.zip(bottom_columns).map(|(t, b)| [t, b].concat());
-    (Channel { length, top, bottom }, list)
+    (Channel { mark: draw.of(&Mark::BOTH), length, top, bottom }, list)
 }
 
 /// A drawn sound channel of this length around an assignment in which no column has pins of two nets, and that assignment.
@@ -179,7 +179,7 @@ fn around(draw: &mut Draw, sets: Sets, ranges: Ranges, length: usize, sides: [Ve
         };
         pins.into_iter().map(terminal).collect()
     });
-    (Channel { length, top, bottom }, list)
+    (Channel { mark: draw.of(&Mark::BOTH), length, top, bottom }, list)
 }
 
 /// A drawn sound channel of this length around an assignment in which nets lie over others, and that assignment: chains that branch and

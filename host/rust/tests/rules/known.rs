@@ -1,7 +1,7 @@
-//! The sheets with known results, asked of the library and of the reference.
+//! The sheets with known results, under both marks, asked of the library and of the reference.
 use crate::draw::{all_columns, sheet_of};
 use crate::lent::refused;
-use crate::reference::{amount, read, Channel, Refused, Terminal};
+use crate::reference::{amount, read, Channel, Mark, Refused, Terminal};
 use cazdrob::{Assignment, Searcher};
 
 /// A side: its nets, with these sets and, but for the first, this range.
@@ -15,10 +15,10 @@ pub fn side(nets: &[u16], sets: &[u64], least: u8, greatest: u8) -> Vec<Terminal
     (0..nets.len()).map(terminal).collect()
 }
 
-/// A channel with full sets and ranges 1 to 255.
+/// A channel with full sets and ranges 1 to 255, on a CP sheet.
 pub fn free(length: usize, top: &[u16], bottom: &[u16]) -> Channel {
     let full = |nets: &[u16]| side(nets, &vec![all_columns(length); nets.len()], 1, 255);
-    Channel { length, top: full(top), bottom: full(bottom) }
+    Channel { mark: Mark::Cp, length, top: full(top), bottom: full(bottom) }
 }
 
 fn sheet_a() -> Channel {
@@ -54,6 +54,8 @@ fn sheet_a_has_the_bytes_of_the_rules() {
     let sheet = sheet_of(&sheet_a(), false);
     assert_eq!(sheet.len(), 60);
     assert_eq!(sheet[48..], trailer);
+    let counted = sheet_of(&sheet_a().under(Mark::Cq), false);
+    assert_eq!((&counted[..59], counted[59]), (&sheet[..59], 0x51));
 }
 
 #[test]
@@ -65,11 +67,35 @@ fn searches() {
     found(&free(1, &[7], &[7]), 0, &[1, 1]);
     found(&free(1, &[], &[]), 0, &[]);
     without(&free(1, &[1, 2], &[]));
-    without(&Channel { length: 1, top: side(&[1], &[0], 0, 0), bottom: vec![] });
-    let far = |distance| Channel { length: 4, top: side(&[1, 2], &[0b0001, 0b1010], distance, distance), bottom: vec![] };
+    without(&Channel { mark: Mark::Cp, length: 1, top: side(&[1], &[0], 0, 0), bottom: vec![] });
+    let far = |distance| {
+        let top = side(&[1, 2], &[0b0001, 0b1010], distance, distance);
+        Channel { mark: Mark::Cp, length: 4, top, bottom: vec![] }
+    };
     without(&far(2));
     found(&far(3), 0, &[1, 4]);
     found(&free(2, &[4, 4], &[4]), 1, &[1, 2, 1]);
+}
+
+/// The same on CQ sheets.
+#[test]
+fn searches_where_straight_wires_count() {
+    let counted = |length, top: &[u16], bottom: &[u16]| free(length, top, bottom).under(Mark::Cq);
+    // no assignment has density 1 any more, and the smallest word leaves column 3 empty
+    let sheet_a = counted(3, &[1, 2], &[2, 1]);
+    found(&sheet_a, 2, &[1, 2, 1, 2]);
+    assert_eq!(sheet_a.word(&[1, 2, 1, 2]), [0, 3, 3]);
+    found(&counted(2, &[1, 2], &[2, 1]), 2, &[1, 2, 1, 2]);
+    found(&counted(4, &[1, 2], &[2, 1]), 2, &[1, 2, 1, 2]);
+    found(&counted(1, &[7], &[7]), 1, &[1, 1]);
+    found(&counted(3, &[7], &[7]), 1, &[1, 1]);
+    // a net with one pin, and one with three, which never share a column
+    found(&counted(1, &[7], &[]), 0, &[1]);
+    found(&counted(1, &[7], &[8]), 0, &[1, 1]);
+    found(&counted(2, &[4, 4], &[4]), 1, &[1, 2, 1]);
+    found(&counted(1, &[], &[]), 0, &[]);
+    without(&counted(1, &[1, 2], &[]));
+    without(&Channel { mark: Mark::Cq, length: 1, top: side(&[1], &[0], 0, 0), bottom: vec![] });
 }
 
 pub fn measured(channel: &Channel, list: &[u8], wanted: Result<u32, Refused>) {
@@ -90,6 +116,14 @@ fn measurements_on_sheet_a() {
     measured(&sheet_a(), &[2, 2, 1, 3], out_of_range(-1));
     measured(&sheet_a(), &[2, 2, 0, 1], Err(13.into()));
     measured(&sheet_a(), &[2, 2, 0], Err(12.into()));
+
+    let counted = sheet_a().under(Mark::Cq);
+    measured(&counted, &[1, 2, 1, 2], Ok(2));
+    measured(&counted, &[2, 3, 1, 2], Ok(2));
+    measured(&counted, &[1, 2, 2, 3], Ok(2));
+    measured(&counted, &[2, 2, 1, 3], out_of_range(-1));
+    measured(&counted, &[2, 2, 0, 1], Err(13.into()));
+    measured(&counted, &[2, 2, 0], Err(12.into()));
 }
 
 #[test]
@@ -105,7 +139,7 @@ fn distances() {
 #[test]
 fn amounts() {
     let three = |least, greatest| side(&[1, 2, 3], &[all_columns(64); 3], least, greatest);
-    let channel = Channel { length: 64, top: three(2, 4), bottom: three(3, 3) };
+    let channel = Channel { mark: Mark::Cp, length: 64, top: three(2, 4), bottom: three(3, 3) };
     measured(&channel, &[1, 3, 7, 1, 4, 7], Ok(1));
     // each bad pair alone
     measured(&channel, &[5, 2, 4, 1, 4, 7], out_of_range(-5));
@@ -119,7 +153,10 @@ fn amounts() {
     // a column out of its set, on whichever side, is refused first
     measured(&channel, &[5, 2, 4, 1, 4, 65], Err(13.into()));
 
-    let far = |distance| Channel { length: 64, top: vec![], bottom: side(&[1, 2], &[all_columns(64); 2], distance, distance) };
+    let far = |distance| {
+        let bottom = side(&[1, 2], &[all_columns(64); 2], distance, distance);
+        Channel { mark: Mark::Cp, length: 64, top: vec![], bottom }
+    };
     measured(&far(255), &[64, 1], out_of_range(-318));
     measured(&far(1), &[1, 64], out_of_range(62));
 }

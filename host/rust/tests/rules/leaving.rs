@@ -1,8 +1,9 @@
 //! Nets that leave at the left, at the right or at both ends: the columns that they cross, and what that does to searches and measurements.
+//! They count alike under both marks.
 use crate::draw::{channel, sheet_of, Draw};
 use crate::known::{found, free, measured, side};
 use crate::lent::Seen;
-use crate::reference::{leaves, Channel};
+use crate::reference::{leaves, Channel, Mark};
 use crate::sound::every_call;
 use cazdrob::{Assignment, Searcher};
 
@@ -37,21 +38,26 @@ fn all_plain(channel: &Channel) -> Channel {
     plain
 }
 
-/// Nets with the columns that their pins are held to, and the list of these.
+/// Nets with the columns that their pins are held to, on a CP sheet, and the list of these.
 pub fn held(length: u8, top: &[(u16, u8)], bottom: &[(u16, u8)]) -> (Channel, Vec<u8>) {
     let [top_side, bottom_side] = [top, bottom].map(|pins| {
         let (nets, sets): (Vec<u16>, Vec<u64>) = pins.iter().map(|(net, column)| (*net, 1 << (column - 1))).unzip();
         side(&nets, &sets, 1, 255)
     });
     let list = [top, bottom].concat().into_iter().map(|(_, column)| column).collect();
-    (Channel { length: length.into(), top: top_side, bottom: bottom_side }, list)
+    (Channel { mark: Mark::Cp, length: length.into(), top: top_side, bottom: bottom_side }, list)
 }
 
-/// Holds the measurement and the search of held pins to this density.
-fn counts(length: u8, top: &[(u16, u8)], bottom: &[(u16, u8)], density: u32) {
+/// Holds the measurement and the search of held pins to this density, on a sheet with this mark.
+pub fn counts_under(mark: Mark, length: u8, top: &[(u16, u8)], bottom: &[(u16, u8)], density: u32) {
     let (channel, list) = held(length, top, bottom);
-    measured(&channel, &list, Ok(density));
-    found(&channel, density, &list);
+    measured(&channel.under(mark), &list, Ok(density));
+    found(&channel.under(mark), density, &list);
+}
+
+/// The same under both marks.
+fn counts(length: u8, top: &[(u16, u8)], bottom: &[(u16, u8)], density: u32) {
+    Mark::BOTH.into_iter().for_each(|mark| counts_under(mark, length, top, bottom, density));
 }
 
 /// One pin or two of a net, beside a plain net with its pins in two neighbouring columns: the density is 2 exactly where the first net
@@ -69,7 +75,9 @@ fn every_column_of_a_net() {
                     for column in 1..length {
                         let both = crosses && from <= column + 1 && column <= to;
                         let (channel, list) = held(length, &pins, &[(1, column), (1, column + 1)]);
-                        measured(&channel, &list, Ok(1 + u32::from(both)));
+                        for mark in Mark::BOTH {
+                            measured(&channel.under(mark), &list, Ok(1 + u32::from(both)));
+                        }
                     }
                 }
             }
@@ -82,13 +90,14 @@ fn pins_at_the_ends() {
     for length in [1, 2, 64] {
         for (net, left, right) in BOUNDS {
             for column in [1, length] {
-                // one pin, and two that share a column
                 let density = u32::from(left || right);
                 counts(length, &[(net, column)], &[], density);
                 counts(length, &[], &[(net, column)], density);
-                counts(length, &[(net, column)], &[(net, column)], density);
                 // beside a net that crosses every column
                 counts(length, &[(net, column)], &[(64_002, column)], 1 + density);
+                // two pins that share a column: a plain net is a straight wire
+                counts_under(Mark::Cp, length, &[(net, column)], &[(net, column)], density);
+                counts_under(Mark::Cq, length, &[(net, column)], &[(net, column)], 1);
             }
         }
         // one column each, the same one where L is 1
@@ -113,6 +122,9 @@ fn a_net_that_leaves_at_both_ends_alone() {
 /// Nets of one pin: read as plain, every density would be 0.
 #[test]
 fn searches() {
+    let found = |channel: &Channel, density: u32, columns: &[u8]| {
+        Mark::BOTH.into_iter().for_each(|mark| found(&channel.under(mark), density, columns));
+    };
     // apart they share no column; the smallest word leaves column 3 empty
     found(&free(3, &[60_001], &[62_001]), 1, &[1, 2]);
     found(&free(3, &[62_001], &[60_001]), 1, &[2, 1]);
@@ -129,17 +141,17 @@ fn searches() {
 #[test]
 fn nets_of_one_pin_in_every_place() {
     let rows = [
-        (64_001, 65_472, 128), // every net crosses every column
-        (60_001, 61_937, 128), // every net crosses column 1
-        (62_001, 63_937, 128), // every net crosses column 64
-        (60_001, 62_001, 65),  // column c is crossed by 65 - c of the top and c of the bottom nets
-        (59_873, 59_937, 0),   // all plain
+        (Mark::Cp, 64_001, 65_472, 128), // every net crosses every column
+        (Mark::Cq, 60_001, 61_937, 128), // every net crosses column 1
+        (Mark::Cp, 62_001, 63_937, 128), // every net crosses column 64
+        (Mark::Cq, 60_001, 62_001, 65),  // column c is crossed by 65 - c of the top and c of the bottom nets
+        (Mark::Cq, 59_873, 59_937, 0),   // all plain
     ];
     let columns: Vec<u8> = (1..=64).chain(1..=64).collect();
     let mut searcher = Searcher::new();
-    for (top, bottom, density) in rows {
+    for (mark, top, bottom, density) in rows {
         let [top, bottom] = [top, bottom].map(|first: u16| (first..=first + 63).collect::<Vec<u16>>());
-        let channel = free(64, &top, &bottom);
+        let channel = free(64, &top, &bottom).under(mark);
         assert_eq!(channel.best(), Some((density, columns.clone())));
         assert_eq!(searcher.assign(&sheet_of(&channel, false)), Ok(Assignment { density, columns: columns.clone() }));
         measured(&channel, &columns, Ok(density));

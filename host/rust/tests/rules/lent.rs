@@ -1,7 +1,7 @@
 //! Calls of the C functions on buffers out of the middle of longer ones full of garbage, each held to what the reference says, to the
 //! last byte and cell of the longer buffers.
 use crate::draw::Draw;
-use crate::reference::{read, Chained, Channel, Record, Refused};
+use crate::reference::{read, Chained, Channel, Mark, Record, Refused};
 use cazdrob::{Chain, Refusal, Routing, Searcher, Span, Tracks};
 
 extern "C" {
@@ -91,6 +91,7 @@ pub struct Seen {
     pub tracks: [u32; 19],
     pub chain: [u32; 20],
     pub bad: Bad,
+    pub straight: Straight,
 }
 
 impl Seen {
@@ -104,6 +105,40 @@ impl Seen {
         if self.measure[14] > 0 {
             println!("  of 14   {:?}", self.bad);
         }
+        if self.straight != Straight::default() {
+            println!("  of CQ   {:?}", self.straight);
+        }
+    }
+}
+
+/// How often the straight wires of a list told on a CQ sheet.
+#[derive(Debug, Default, PartialEq)]
+pub struct Straight {
+    /// The density is above that of the same list on a CP sheet.
+    pub denser: u32,
+    /// A straight wire has a track of its own in its column, as another net crosses that.
+    pub own_track: u32,
+    /// The bound of tracks is above that of the same list on a CP sheet.
+    pub bound: u32,
+}
+
+impl Straight {
+    fn measured(&mut self, channel: &Channel, list: &[u8], density: u32) {
+        self.denser += u32::from(density > channel.under(Mark::Cp).density(list));
+    }
+
+    fn routed(&mut self, channel: &Channel, list: &[u8], records: &[Record]) {
+        let others = |net: u16, column: usize| {
+            let there = |[other, left, right, track]: &Record| *other != net && *track > 0 && (*left..=*right).contains(&(column as u16));
+            records.iter().any(there)
+        };
+        let has_track = |net: u16| records.iter().any(|[other, .., track]| *other == net && *track > 0);
+        let own = |(net, column): (u16, usize)| has_track(net) && others(net, column);
+        self.own_track += u32::from(channel.straight_wires(list).into_iter().any(own));
+    }
+
+    fn chained(&mut self, channel: &Channel, list: &[u8], Chained { chain, bound, .. }: Chained) {
+        self.bound += u32::from(bound > chain.max(channel.under(Mark::Cp).density(list)));
     }
 }
 
@@ -236,8 +271,10 @@ impl Held {
         density.hold(&before.2, [wanted_density].into_iter(), "the density");
         amount.hold(&before.3, [wanted_amount].into_iter(), "the amount");
         seen.measure[number as usize] += 1;
-        if let (14, Ok(channel)) = (number, &self.read) {
-            seen.bad.count(channel.amounts(list));
+        match (number, &self.read) {
+            (0, Ok(channel)) if channel.mark == Mark::Cq => seen.straight.measured(channel, list, wanted_density),
+            (14, Ok(channel)) => seen.bad.count(channel.amounts(list)),
+            _ => {}
         }
     }
 
@@ -297,6 +334,9 @@ impl Held {
         let routed = routed.map(|r| Routing { tracks: tracks_of(&r), spans: r.into_iter().map(span).collect() });
         assert_eq!(cazdrob::route(sheet.lend(), columns.lend()).map_err(refused), routed);
         seen.tracks[number as usize] += 1;
+        if let (Ok(channel), Ok(records)) = (&self.read, &wanted) {
+            seen.straight.routed(channel, list, records);
+        }
         wanted
     }
 
@@ -333,6 +373,10 @@ impl Held {
         };
         assert_eq!(wrapped, wanted, "the wrapper's chain of {list:?} on {:?}", self.sheet);
         seen.chain[number as usize] += 1;
+        match (number, &self.read) {
+            (0, Ok(channel)) if channel.mark == Mark::Cq => seen.straight.chained(channel, list, wanted),
+            _ => {}
+        }
         wanted
     }
 

@@ -75,6 +75,7 @@ fn lists_of_small_sheets() {
         assert!(seen.measure[number] > 10_000, "{number}");
     }
     assert!(in_every_way(&seen.bad, 3_000));
+    assert!(seen.straight.denser > 300 && seen.straight.bound > 300 && seen.straight.own_track > 10);
 }
 
 #[test]
@@ -83,7 +84,7 @@ fn lists_of_large_sheets() {
     for number in [0, 12, 13, 14] {
         assert!(seen.measure[number] > 2_000, "{number}");
     }
-    assert!(in_every_way(&seen.bad, 2_000));
+    assert!(in_every_way(&seen.bad, 2_000) && seen.straight.denser > 0);
 }
 
 /// Every list of a small sheet, also with columns 0 and L+1.

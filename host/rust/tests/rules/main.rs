@@ -11,6 +11,7 @@ mod known;
 mod leaving;
 mod lent;
 mod lists;
+mod marks;
 mod modules;
 mod pairs;
 mod placements;

@@ -1,6 +1,7 @@
-//! The assignments of a sheet made of modules are the placements of the modules, one to one, and a search finds the best placement.
+//! The assignments of a sheet made of modules are the placements of the modules, one to one, and a search finds the best placement. With
+//! the mark CQ in place of the sheet's own they are the same.
 use crate::draw::{modules, Draw};
-use crate::reference::Channel;
+use crate::reference::{Channel, Mark};
 use crate::sides::{channel, read};
 use cazdrob::{Module, Refusal, Searcher};
 use std::collections::BTreeSet;
@@ -52,9 +53,12 @@ fn assignments_are_placements() {
     let (mut lists, mut placements, mut without, mut several, mut densities_differ) = (0, 0, 0, 0, 0);
     for _ in 0..6_000 {
         let (length, modules) = few(&mut draw);
-        let sheet = cazdrob::sheet_of_modules(length, &modules[0], &modules[1]).unwrap();
+        let mut sheet = cazdrob::sheet_of_modules(length, &modules[0], &modules[1]).unwrap();
         let sides = read(&modules.map(|side| cazdrob::side(&side)));
-        let channel = channel(length, &sides);
+        let mark = draw.of(&Mark::BOTH);
+        let channel = channel(length, &sides).under(mark);
+        let letters = sheet.len() - 2;
+        sheet[letters..].copy_from_slice(&mark.letters());
         let [tops, bottoms] = sides.each_ref().map(|side| side.placed());
         let placed: BTreeSet<Vec<u8>> = tops.iter().flat_map(|top| bottoms.iter().map(move |bottom| [&top[..], bottom].concat())).collect();
         assert_eq!(placed.len(), tops.len() * bottoms.len(), "two placements of {sides:?} with the same columns");

@@ -1,6 +1,7 @@
 //! The rules in plain Rust: reading and refusing a sheet, the density of a column list, its tracks, its longest chain of vertical
 //! constraints, the best assignment. The dynamic programme is that of "Optimal channel pin assignment", section 5.1, with densities by
 //! definition. Nothing is shared with the library.
+use std::cmp::Ordering;
 use std::collections::BTreeMap;
 
 #[derive(Debug, Clone, PartialEq, Eq)]
@@ -11,8 +12,45 @@ pub struct Terminal {
     pub set: u64,
 }
 
+/// The last two letters of a sheet, by which its nets are counted.
+#[derive(Debug, Clone, Copy, PartialEq, Eq)]
+pub enum Mark {
+    Cp,
+    Cq,
+}
+
+impl Mark {
+    pub const BOTH: [Mark; 2] = [Mark::Cp, Mark::Cq];
+
+    pub fn letters(self) -> [u8; 2] {
+        match self {
+            Mark::Cp => *b"CP",
+            Mark::Cq => *b"CQ",
+        }
+    }
+
+    /// Whether a net counts in a column that has so many of its pins left of it, in it and right of it. A plain net counts from its
+    /// leftmost pin to its rightmost: on a CP sheet where these are in two columns, on a CQ sheet where they are two pins, however short
+    /// the way. A net that leaves counts up to its end of the channel.
+    fn counts(self, net: u16, left: usize, here: usize, right: usize) -> bool {
+        let (leaves_left, leaves_right) = leaves(net);
+        let runs = match self {
+            Mark::Cp => left + right > 0,
+            Mark::Cq => left + here + right > 1,
+        };
+        (leaves_left || left + here > 0) && (leaves_right || here + right > 0) && (leaves_left || leaves_right || runs)
+    }
+
+    /// Whether a net with its pins in these columns counts in a column.
+    pub fn crosses(self, net: u16, pins: &[usize], column: usize) -> bool {
+        let of = |order| pins.iter().filter(|pin| (**pin).cmp(&column) == order).count();
+        self.counts(net, of(Ordering::Less), of(Ordering::Equal), of(Ordering::Greater))
+    }
+}
+
 #[derive(Debug, Clone, PartialEq, Eq)]
 pub struct Channel {
+    pub mark: Mark,
     pub length: usize,
     pub top: Vec<Terminal>,
     pub bottom: Vec<Terminal>,
@@ -127,9 +165,10 @@ pub fn read(sheet: &[u8]) -> Result<Channel, u32> {
         return Err(1);
     }
     let trailer = sheet.len() - 12;
-    if &sheet[trailer + 10..] != b"CP" {
+    let letters = &sheet[trailer + 10..];
+    let Some(mark) = Mark::BOTH.into_iter().find(|mark| mark.letters() == letters) else {
         return Err(2);
-    }
+    };
     let [top_at, p, bottom_at, q, length] = [0, 2, 4, 6, 8].map(|field| u16_at(sheet, trailer + field));
     if length == 0 || length > 64 {
         return Err(3);
@@ -172,7 +211,7 @@ pub fn read(sheet: &[u8]) -> Result<Channel, u32> {
     };
     let top = side(top_at, p)?;
     let bottom = side(bottom_at, q)?;
-    Ok(Channel { length, top, bottom })
+    Ok(Channel { mark, length, top, bottom })
 }
 
 /// Whether the set has a column above the length.
@@ -213,19 +252,12 @@ pub fn leaves(net: u16) -> (bool, bool) {
     }
 }
 
-/// Whether a net crosses a column, from whether it has a pin in it or left of it, one in it or right of it, and one that is not in it.
-fn crosses(net: u16, up_to: bool, from: bool, elsewhere: bool) -> bool {
-    let (left, right) = leaves(net);
-    (left || up_to) && (right || from) && (left || right || elsewhere)
-}
-
-/// Whether a net with pins in these columns crosses a column.
-pub fn crosses_column(net: u16, pins: &[usize], column: usize) -> bool {
-    let [up_to, from] = [pins.iter().any(|pin| *pin <= column), pins.iter().any(|pin| *pin >= column)];
-    crosses(net, up_to, from, pins.iter().any(|pin| *pin != column))
-}
-
 impl Channel {
+    /// The same channel on a sheet with this mark.
+    pub fn under(&self, mark: Mark) -> Channel {
+        Channel { mark, ..self.clone() }
+    }
+
     pub fn terminals(&self) -> usize {
         self.top.len() + self.bottom.len()
     }
@@ -252,8 +284,17 @@ impl Channel {
     /// The density of a column list: the greatest number of nets that cross a column.
     pub fn density(&self, list: &[u8]) -> u32 {
         let nets: Vec<(u16, Vec<usize>)> = self.nets().into_iter().map(|net| (net, self.pins(net, list))).collect();
-        let count = |column: usize| nets.iter().filter(|(net, pins)| crosses_column(*net, pins, column)).count() as u32;
+        let count = |column: usize| nets.iter().filter(|(net, pins)| self.mark.crosses(*net, pins, column)).count() as u32;
         (1..=self.length).map(count).max().unwrap()
+    }
+
+    /// The straight wires of an assignment, plain nets with two pins that share a column, and the column of each.
+    pub fn straight_wires(&self, list: &[u8]) -> Vec<(u16, usize)> {
+        let wire = |net: u16| match self.pins(net, list)[..] {
+            [top, bottom] if leaves(net) == (false, false) && top == bottom => Some((net, top)),
+            _ => None,
+        };
+        self.nets().into_iter().filter_map(wire).collect()
     }
 
     /// The columns in which a top pin stands over a bottom pin of another net.
@@ -278,7 +319,7 @@ impl Channel {
         for net in nets {
             let (pins, (left, right)) = (self.pins(net, list), self.ends(net, list));
             let free = |track: &u16| records.iter().all(|[_, from, to, taken]| taken != track || *to < left || right < *from);
-            let crosses_some = (1..=self.length).any(|column| crosses_column(net, &pins, column));
+            let crosses_some = (1..=self.length).any(|column| self.mark.crosses(net, &pins, column));
             let track = if crosses_some { (1..).find(free).unwrap() } else { 0 };
             records.push([net, left, right, track]);
         }
@@ -573,7 +614,7 @@ fn loads_of(channel: &Channel) -> Vec<u8> {
                     let left = top[i - a] + bottom[j - b];
                     let here = top[i] + bottom[j] - left;
                     let right = top[p] + bottom[q] - left - here;
-                    if crosses(net, left + here > 0, here + right > 0, left + right > 0) {
+                    if channel.mark.counts(net, left, here, right) {
                         loads[(i * (q + 1) + j) * 4 + letter] += 1;
                     }
                 }

@@ -1,6 +1,6 @@
 //! Modules in plain Rust: reading the list of a side, what is refused and why, the channel that two sides mean, and every placement.
 //! The structs are the wrapper's; nothing is shared with the library.
-use crate::reference::{Channel, Terminal};
+use crate::reference::{Channel, Mark, Terminal};
 use cazdrob::{Module, Pin};
 
 /// Why a module is refused with 16.
@@ -155,5 +155,5 @@ pub fn needed(sides: &[Side; 2]) -> usize {
 
 /// The channel that two sides mean where nothing is refused.
 pub fn channel(length: usize, [top, bottom]: &[Side; 2]) -> Channel {
-    Channel { length, top: top.terminals(), bottom: bottom.terminals() }
+    Channel { mark: Mark::Cp, length, top: top.terminals(), bottom: bottom.terminals() }
 }

@@ -1,8 +1,9 @@
-//! Sound sheets of every size, and the reference's two searches against each other.
+//! Sound sheets of every size, under both marks, and the reference's two searches against each other.
 use crate::draw::{all_columns, channel, channel_up_to, sheet_of, Draw};
 use crate::leaving::count_kinds;
 use crate::lent::{Held, Seen};
-use crate::reference::{Channel, Terminal};
+use crate::reference::{Channel, Mark, Terminal};
+use crate::tracks::add;
 use cazdrob::Searcher;
 
 /// Every call on the channel's sheet, on buffers of just the lengths that are needed and on longer ones.
@@ -47,7 +48,7 @@ fn many(test: &str, seed: u64, sheets: usize, length: usize, p: usize, q: usize)
 #[test]
 fn the_dynamic_programme_agrees_with_every_assignment_tried() {
     let mut draw = Draw::new(1);
-    let (mut with, mut without, mut ties, mut by_kind) = (0, 0, 0, [0; 4]);
+    let (mut with, mut without, mut ties, mut by_kind, mut by_mark) = (0, 0, 0, [0; 4], [0; 2]);
     for _ in 0..60_000 {
         let (length, most) = draw.of(&[(4, 4), (5, 4), (6, 4), (7, 3), (9, 2)]);
         let (channel, list) = channel_up_to(&mut draw, length, most, most);
@@ -58,27 +59,31 @@ fn the_dynamic_programme_agrees_with_every_assignment_tried() {
             Some((least, best)) => {
                 with += 1;
                 count_kinds(&mut by_kind, &channel);
+                add(&mut by_mark, &Mark::BOTH.map(|mark| channel.mark == mark));
                 // a drawn assignment that only the word tells from the best one
                 let tied = |list: &Vec<u8>| *list != best && channel.measure(list) == Ok(least);
                 ties += u32::from(list.as_ref().is_some_and(tied));
             }
         }
     }
-    println!("{with} with an assignment, of them with nets of each kind {by_kind:?}; {without} without; {ties} ties");
+    println!(
+        "{with} with an assignment, of them with nets of each kind {by_kind:?}, CP and CQ {by_mark:?}; {without} without; {ties} ties"
+    );
     assert!(with > 40_000 && without > 5_000 && ties > 10_000);
-    assert!(by_kind.iter().all(|sheets| *sheets > 9_000));
+    assert!(by_kind.iter().all(|sheets| *sheets > 9_000) && by_mark.iter().all(|sheets| *sheets > 20_000));
 }
 
 #[test]
 fn small_sheets() {
     let seen = many("small sheets", 2, 100_000, 6, 4, 4);
     assert!(seen.search[0] > 80_000 && seen.search[11] > 10_000);
+    assert!(seen.straight.denser > 1_500 && seen.straight.bound > 1_500 && seen.straight.own_track > 100);
 }
 
 #[test]
 fn middle_sheets() {
     let seen = many("middle sheets", 3, 8_000, 24, 12, 12);
-    assert!(seen.search[0] > 6_000 && seen.search[11] > 1_000);
+    assert!(seen.search[0] > 6_000 && seen.search[11] > 1_000 && seen.straight.denser > 30);
 }
 
 #[test]
@@ -102,15 +107,15 @@ fn the_largest_sheets() {
     assert!(seen.search[0] >= 8);
 }
 
-/// The nets of one side in the reverse order at the other, on just as many columns and on twice as many: up to the greatest density
-/// of plain nets, 64.
+/// The nets of one side in the reverse order at the other, on just as many columns of a CP sheet and on twice as many of a CQ sheet: up to
+/// the greatest density of plain nets, 64.
 #[test]
 fn reversed_nets() {
     let mut draw = Draw::new(6);
     let mut seen = Seen::default();
     let mut searcher = Searcher::new();
     for terminals in [1, 2, 3, 7, 16, 31, 32, 64] {
-        for length in [terminals, (2 * terminals).min(64)] {
+        for (mark, length) in [(Mark::Cp, terminals), (Mark::Cq, (2 * terminals).min(64))] {
             let side = |nets: &mut dyn Iterator<Item = u16>| -> Vec<Terminal> {
                 let terminal = |(place, net)| {
                     let (least, greatest) = if place == 0 { (0, 0) } else { (1, 255) };
@@ -119,7 +124,7 @@ fn reversed_nets() {
                 nets.enumerate().map(terminal).collect()
             };
             let nets = 1..=terminals as u16;
-            let channel = Channel { length, top: side(&mut nets.clone()), bottom: side(&mut nets.rev()) };
+            let channel = Channel { mark, length, top: side(&mut nets.clone()), bottom: side(&mut nets.rev()) };
             if length == terminals && terminals % 2 == 0 {
                 // every net crosses the two columns in the middle
                 assert_eq!(channel.best().map(|(density, _)| density), Some(terminals as u32));

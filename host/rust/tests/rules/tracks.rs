@@ -1,10 +1,11 @@
-//! Tracks of clean assignments: the record of each net, what is refused with 18 and with 9, and what is promised of every answer.
+//! Tracks of clean assignments under both marks: the record of each net, what is refused with 18 and with 9, and what is promised of every
+//! answer.
 use crate::damaged::damage;
 use crate::draw::{channel_up_to, clean, sheet_of, Draw};
 use crate::known::free;
 use crate::leaving::{count_kinds, held, BOUNDS};
 use crate::lent::{span, Held, Seen};
-use crate::reference::{crosses_column, leaves, names, Channel, Record, Refused, Terminal};
+use crate::reference::{leaves, names, Channel, Mark, Record, Refused, Terminal};
 use cazdrob::{Chain, Refusal, Routing, Searcher};
 use std::collections::BTreeMap;
 
@@ -20,7 +21,7 @@ fn promised(channel: &Channel, sheet: &[u8], list: &[u8]) {
     assert!(spans.windows(2).all(|two| (two[0].left, two[0].net) < (two[1].left, two[1].net)), "{spans:?} in order");
 
     let pins: Vec<Vec<usize>> = spans.iter().map(|span| channel.pins(span.net, list)).collect();
-    let crosses = |place: usize, column: &usize| crosses_column(spans[place].net, &pins[place], *column);
+    let crosses = |place: usize, column: &usize| channel.mark.crosses(spans[place].net, &pins[place], *column);
     let crossed: Vec<Vec<usize>> = (0..spans.len()).map(|place| (1..=channel.length).filter(|c| crosses(place, c)).collect()).collect();
     for (place, span) in spans.iter().enumerate() {
         let ends = usize::from(span.left)..=usize::from(span.right);
@@ -67,6 +68,12 @@ struct Clean {
     one_pin: [u32; 4],
     /// A net of each kind with two pins, both in one column.
     straight: [u32; 4],
+    /// A straight wire, on a CP sheet and on a CQ sheet.
+    straight_under: [u32; 2],
+    /// Straight wires and other nets on one track, on a CQ sheet.
+    straight_with_others: u32,
+    /// Straight wires on every track, on a CQ sheet.
+    straight_alone: u32,
     /// A net with two pins in one column and another elsewhere.
     shared: u32,
     /// A net that crosses one column alone: leaving at the left, at the right, at both ends.
@@ -107,6 +114,13 @@ impl Clean {
         let turned = |two: &[Record]| two[0][1] == two[1][1] && first(two[0][0]) > first(two[1][0]);
         self.equal_left += u32::from(records.windows(2).any(turned));
         let on_tracks: Vec<&Record> = records.iter().filter(|[.., track]| *track > 0).collect();
+        let wires = channel.straight_wires(list);
+        add(&mut self.straight_under, &Mark::BOTH.map(|mark| channel.mark == mark && !wires.is_empty()));
+        let is_wire = |record: &&&Record| wires.iter().any(|(net, _)| *net == record[0]);
+        let (straight, others): (Vec<&Record>, Vec<&Record>) = on_tracks.iter().partition(is_wire);
+        let with_other = |wire: &&Record| others.iter().any(|other| other[3] == wire[3]);
+        self.straight_with_others += u32::from(straight.iter().any(with_other));
+        self.straight_alone += u32::from(!straight.is_empty() && others.is_empty());
         let (mut meet, mut next, mut lower) = (false, false, false);
         for (place, [_, left, _, track]) in on_tracks.iter().enumerate() {
             let before = &on_tracks[..place];
@@ -125,9 +139,11 @@ impl Clean {
     }
 
     fn floors(&self, times: u32) {
-        let Clean { sides, kinds, bounds, one_pin, straight, one_column, .. } = self;
+        let Clean { sides, kinds, bounds, one_pin, straight, straight_under, one_column, .. } = self;
         let one = [self.shared, self.equal_left, self.meet, self.next, self.lower, self.between];
-        for counts in [&sides[..], kinds, bounds, one_pin, straight, one_column, &one, &self.sizes, &self.tracks] {
+        let of_wires = [self.straight_with_others, self.straight_alone];
+        let lists = [&sides[..], kinds, bounds, one_pin, straight, straight_under, one_column, &one, &of_wires, &self.sizes, &self.tracks];
+        for counts in lists {
             assert!(counts.iter().all(|count| *count > times), "{counts:?}");
         }
     }
@@ -161,7 +177,7 @@ impl TwoNets {
         let (top, bottom) = (net_in(&channel.top, &list[..p]), net_in(&channel.bottom, &list[p..]));
         let leaving = |net| leaves(net) != KINDS[0];
         let one_pin = |net| !leaving(net) && channel.pins(net, list).len() == 1;
-        let crosses = |net| (1..=channel.length).any(|column| crosses_column(net, &channel.pins(net, list), column));
+        let crosses = |net| (1..=channel.length).any(|column| channel.mark.crosses(net, &channel.pins(net, list), column));
         self.all += 1;
         let kinds = [(false, false), (false, true), (true, false), (true, true)];
         add(&mut self.kinds, &kinds.map(|kinds| (leaving(top), leaving(bottom)) == kinds));
@@ -296,7 +312,7 @@ fn drawn_assignments() {
     }
     seen.print("drawn assignments");
     println!("  {clean_ones:?}\n  {two_nets:?}\n  with one that applied too: {also:?}");
-    assert!(clean_ones.all == 20_000 && two_nets.all > 4_000);
+    assert!(clean_ones.all == 20_000 && two_nets.all > 4_000 && seen.straight.own_track > 1_000);
     clean_ones.floors(50);
     two_nets.floors(400);
     for number in [0, 9, 12, 13, 14, 18] {
@@ -376,7 +392,7 @@ fn searched_assignments() {
     }
     seen.print("searched assignments");
     println!("  found with two nets in a column, and clean: {found:?}; by tracks, 0 to 3 and more: {by_tracks:?}");
-    assert!(found[0] > 500 && found[1] > 2_000 && by_tracks.iter().all(|times| *times > 60));
+    assert!(found[0] > 500 && found[1] > 2_000 && by_tracks.iter().all(|times| *times > 60) && seen.straight.own_track > 20);
 }
 
 /// Every channel of few columns where each column is empty, or has a top pin, a bottom pin or both, of one of six nets.
@@ -397,20 +413,29 @@ fn every_clean_assignment_of_few_columns() {
                 number /= 19;
             }
             let (channel, list) = held(length, &top, &bottom);
-            let held = Held::new(sheet_of(&channel, false));
-            let records = held.tracks(&mut draw, &list, held.nets(), &mut seen).unwrap();
-            promised(&channel, &held.sheet, &list);
-            clean_ones.count(&channel, &list, &records);
+            for mark in Mark::BOTH {
+                let channel = channel.under(mark);
+                let held = Held::new(sheet_of(&channel, false));
+                let records = held.tracks(&mut draw, &list, held.nets(), &mut seen).unwrap();
+                promised(&channel, &held.sheet, &list);
+                clean_ones.count(&channel, &list, &records);
+            }
         }
     }
     println!("every clean assignment of few columns: {clean_ones:?}");
-    assert_eq!(clean_ones.all, 19 + 361 + 6_859 + 130_321);
+    assert_eq!(clean_ones.all, 2 * (19 + 361 + 6_859 + 130_321));
+    assert!(clean_ones.straight_under.iter().all(|lists| *lists > 10_000) && seen.straight.own_track > 10_000);
 }
 
-/// Holds the tracks of pins that are held to their columns to these records.
+/// Holds the tracks of pins that are held to their columns to these records, on a CP sheet.
 fn routes(length: u8, top: &[(u16, u8)], bottom: &[(u16, u8)], records: &[Record]) {
+    routes_under(Mark::Cp, length, top, bottom, records);
+}
+
+/// The same on a sheet with this mark.
+fn routes_under(mark: Mark, length: u8, top: &[(u16, u8)], bottom: &[(u16, u8)], records: &[Record]) {
     let (channel, list) = held(length, top, bottom);
-    hold_records(&channel, &list, Ok(records));
+    hold_records(&channel.under(mark), &list, Ok(records));
 }
 
 /// Holds the tracks of a list to these records, or to this refusal; with records, one fewer is refused with 9.
@@ -462,6 +487,33 @@ fn known_records() {
     routes(3, &[(63_000, 1), (65_000, 2), (61_000, 3)], &[], &[[61_000, 1, 3, 1], [63_000, 1, 3, 2], [65_000, 1, 3, 3]]);
 }
 
+/// The same and other assignments on CQ sheets, where a straight wire has a track.
+#[test]
+fn known_records_of_straight_wires() {
+    let sheet_a = free(3, &[1, 2], &[2, 1]).under(Mark::Cq);
+    hold_records(&sheet_a, &[2, 3, 1, 2], Ok(&[[2, 1, 3, 1], [1, 2, 2, 2]]));
+    hold_records(&sheet_a, &[1, 2, 2, 3], Ok(&[[1, 1, 3, 1], [2, 2, 2, 2]]));
+    hold_records(&sheet_a, &[1, 2, 1, 2], Err(18));
+    hold_records(&sheet_a, &[2, 2, 1, 2], Err(14));
+    let routes = |length: u8, top: &[(u16, u8)], bottom: &[(u16, u8)], records: &[Record]| {
+        routes_under(Mark::Cq, length, top, bottom, records);
+    };
+    // three straight wires side by side share a track, and net 4 over them has the other
+    routes(3, &[(7, 1), (6, 2), (5, 3)], &[(7, 1), (6, 2), (5, 3)], &[[7, 1, 1, 1], [6, 2, 2, 1], [5, 3, 3, 1]]);
+    routes(
+        5,
+        &[(4, 1), (7, 2), (6, 3), (5, 4)],
+        &[(7, 2), (6, 3), (5, 4), (4, 5)],
+        &[[4, 1, 5, 1], [7, 2, 2, 2], [6, 3, 3, 2], [5, 4, 4, 2]],
+    );
+    // the lower free track is left for the straight wire of net 3
+    routes(4, &[(1, 1), (2, 2), (1, 3), (3, 4)], &[(2, 2), (3, 4)], &[[1, 1, 3, 1], [2, 2, 2, 2], [3, 4, 4, 1]]);
+    // of three pins two share a column, and a net of one pin crosses nothing
+    routes(5, &[(9, 2), (8, 3), (9, 4)], &[(9, 4)], &[[9, 2, 4, 1], [8, 3, 3, 0]]);
+    // beside a net that leaves: in its order by left end and by net
+    routes(3, &[(7, 1), (60_001, 2), (9, 3)], &[(7, 1), (9, 3)], &[[7, 1, 1, 1], [60_001, 1, 2, 2], [9, 3, 3, 1]]);
+}
+
 /// One net of each bound, with one pin and with two in one column: at the ends, between them, and on one column.
 #[test]
 fn one_net() {
@@ -470,9 +522,13 @@ fn one_net() {
             for column in [1, length / 2 + 1, length] {
                 let ends = [if left { 1 } else { column.into() }, if right { length.into() } else { column.into() }];
                 let record = [net, ends[0], ends[1], u16::from(left || right)];
-                routes(length, &[(net, column)], &[], &[record]);
-                routes(length, &[], &[(net, column)], &[record]);
-                routes(length, &[(net, column)], &[(net, column)], &[record]);
+                for mark in Mark::BOTH {
+                    routes_under(mark, length, &[(net, column)], &[], &[record]);
+                    routes_under(mark, length, &[], &[(net, column)], &[record]);
+                }
+                routes_under(Mark::Cp, length, &[(net, column)], &[(net, column)], &[record]);
+                let [net, left, right, _] = record;
+                routes_under(Mark::Cq, length, &[(net, column)], &[(net, column)], &[[net, left, right, 1]]);
             }
         }
     }
@@ -489,7 +545,8 @@ fn two_nets_of_one_pin() {
             for top in nets {
                 for bottom in nets {
                     let (channel, list) = held(length, &[(top, column)], &[(bottom, column)]);
-                    let held = Held::new(sheet_of(&channel, draw.once_in(2)));
+                    let mark = draw.of(&Mark::BOTH);
+                    let held = Held::new(sheet_of(&channel.under(mark), draw.once_in(2)));
                     for room in 0..=3 {
                         let number = held.tracks(&mut draw, &list, room, &mut seen).map_err(|refused| refused.number).err();
                         assert_eq!(number, if top != bottom { Some(18) } else { (room == 0).then_some(9) });
@@ -515,8 +572,14 @@ fn as_many_nets_as_columns() {
             (net, (true, true)) => [net, 1, 64, column],
         };
         let records: Vec<Record> = (1..=64).map(record).collect();
-        hold_records(&free(64, &nets, &[]), &columns, Ok(&records));
-        hold_records(&free(64, &nets, &nets), &[&columns[..], &columns].concat(), Ok(&records));
+        let (one_pin, two_pins) = (free(64, &nets, &[]), free(64, &nets, &nets));
+        let columns_of_both = [&columns[..], &columns].concat();
+        hold_records(&one_pin, &columns, Ok(&records));
+        hold_records(&two_pins, &columns_of_both, Ok(&records));
+        hold_records(&one_pin.under(Mark::Cq), &columns, Ok(&records));
+        // straight wires have the lowest track
+        let counted: Vec<Record> = records.iter().map(|[net, left, right, track]| [*net, *left, *right, *track.max(&1)]).collect();
+        hold_records(&two_pins.under(Mark::Cq), &columns_of_both, Ok(&counted));
     }
     // the numbers fall from column to column
     let falling: Vec<u16> = (60_001..=60_064).rev().collect();

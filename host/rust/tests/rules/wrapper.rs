@@ -23,6 +23,11 @@ fn an_amount_in_words() {
 }
 
 #[test]
+fn no_mark_in_words() {
+    assert_eq!(Refusal::Mark.to_string(), "refused 2: the last two bytes are neither CP nor CQ");
+}
+
+#[test]
 fn a_circle_in_words() {
     let words = "refused 19: the vertical constraints have a circle, with net 65535 on it";
     assert_eq!(Refusal::Circle { net: 65_535 }.to_string(), words);

@@ -8,13 +8,13 @@ use Rattle.load.proofs.Table.{write_cell}
 use Rattle.load.proofs.ListedNets.write_cell.Goals as goal
 
 pub loads_at-requires : goal.loads_at-requires
-loads_at-requires c = omega (arith, listed_length _ _ _ c.args.self.listed)
+loads_at-requires c = omega (arith, listed_length _ _ _ _ c.args.self.listed)
 
 pub returns : goal.returns
 returns c =
     let a = c.args in
     let s = a.self in
-    write_cell s.tops.now s.bottoms.now s.places.now s.listed a.i a.j c.requires.0 c.requires.1 a.loads.now.bytes _
+    write_cell s.mark s.tops.now s.bottoms.now s.places.now s.listed a.i a.j c.requires.0 c.requires.1 a.loads.now.bytes _
     c.loads_at.result
     c.possible_loads-l.result
     c.put.ensures.size

@@ -7,4 +7,4 @@ use Rattle.load.proofs.ListedNets.write_row.Given as goal
 abbrev pub invariant-loop-j : goal.invariant-loop-j
 invariant-loop-j l =
     let s = l.self in
-    Written s.tops.now s.bottoms.now l.initial.loads.bytes l.loads.bytes (λ (x y : ℕ). (x ≡ l.i) × (y < l.j))
+    Written s.mark s.tops.now s.bottoms.now l.initial.loads.bytes l.loads.bytes (λ (x y : ℕ). (x ≡ l.i) × (y < l.j))

@@ -1,4 +1,4 @@
--- `sheet::layout_of` meets its contract: the trailer's numbers, which are within their limits.
+-- `sheet::layout_of` meets its contract: the mark, and the trailer's numbers, which are within their limits.
 -- Assumes nothing.
 use Rattle.std.proofs.Common.{◌≡◌, ℕ, List, Ok}
 use Rattle.trailer.specs.declared.Trailer.{Trailer}
@@ -17,4 +17,4 @@ cells_needed-requires c = sound-limits _ c.requires _ (trailer _ _ c.read_traile
 
 pub returns : goal.returns
 unfolding layout_of
-returns c = rw (c.cells_needed.ensures, trailer _ _ c.read_trailer-t.ensures c.requires)
+returns c = rw (c.unwrap_or-mark.ensures, c.read_mark.ensures, c.cells_needed.ensures, trailer _ _ c.read_trailer-t.ensures c.requires)

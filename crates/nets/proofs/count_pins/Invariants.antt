@@ -1,8 +1,8 @@
--- `constraints::count_pins` meets its contract. The loop's invariant: the pins counted and those of the nets that are left are all of them.
+-- `nets::count_pins` meets its contract. The loop's invariant: the pins counted and those of the nets that are left are all of them.
 -- Assumes nothing.
 use Rattle.std.proofs.Common.{◌≡◌, ◌≤◌, ◌+◌, drop}
-use Rattle.constraints.specs.Constraints.{pin_count}
-use Rattle.constraints.proofs.count_pins.Given as goal
+use Rattle.channel.specs.Density.{pin_count}
+use Rattle.nets.proofs.count_pins.Given as goal
 
 abbrev pub invariant-loop-other : goal.invariant-loop-other
 invariant-loop-other l =
