@@ -1,6 +1,6 @@
 /*
- * Tests the C functions: sheet A and others, tracks, chains, modules, with every byte around the lent buffers held to what it was. Each
- * number that a function can return is seen. Names each case that fails; the last line is 'N passed, M failed'.
+ * Tests the C functions: sheet A and others with either mark, tracks, chains, modules, with every byte around the lent buffers held to
+ * what it was. Each number that a function can return is seen. Names each case that fails; the last line is 'N passed, M failed'.
  */
 #include <cazdrob.h>
 #include <stdio.h>
@@ -35,6 +35,12 @@ static const uint8_t BOUND[84] = {
     2, 0, 3, 3,   255, 0, 0, 0, 0, 0, 0, 0, /* B 2 */
     1, 0, 1, 255, 255, 0, 0, 0, 0, 0, 0, 0, /* B 3 */
     0, 0, 3, 0,   36, 0, 3, 0, 8, 0, 'C', 'P',
+};
+/* a straight pair on one column */
+static const uint8_t PAIR[36] = {
+    7, 0, 0, 0, 1, 0, 0, 0, 0, 0, 0, 0, /* T 1 */
+    7, 0, 0, 0, 1, 0, 0, 0, 0, 0, 0, 0, /* B 1 */
+    0, 0, 1, 0, 12, 0, 1, 0, 1, 0, 'C', 'P',
 };
 /* nets that leave, with one pin each, on three columns, all allowed */
 static const uint8_t LEAVING[48] = {
@@ -181,9 +187,10 @@ static size_t put_row(uint8_t *records, uint8_t *list, const uint16_t *row, size
     return pins;
 }
 
-/* whether a call for the chain of two such rows returns the number and leaves the chain, the bound and the net */
-static int rows(const uint16_t *top, const uint16_t *bottom, size_t columns, uint32_t number, uint32_t wanted, uint32_t least,
-                uint32_t on) {
+/* whether a call for the chain of two such rows, on a sheet with this last letter, returns the number and leaves the chain, the bound
+ * and the net */
+static int marked_rows(uint8_t letter, const uint16_t *top, const uint16_t *bottom, size_t columns, uint32_t number, uint32_t wanted,
+                       uint32_t least, uint32_t on) {
     uint8_t sheet[CAZDROB_SHEET_MAX], list[CAZDROB_COLUMNS_MAX];
     size_t p = put_row(sheet, list, top, columns), q = put_row(sheet + 12 * p, list + p, bottom, columns), len = 12 * (p + q);
     memset(sheet + len, 0, 12);
@@ -193,8 +200,14 @@ static int rows(const uint16_t *top, const uint16_t *bottom, size_t columns, uin
     sheet[len + 6] = (uint8_t)q;
     sheet[len + 8] = (uint8_t)columns;
     sheet[len + 10] = 'C';
-    sheet[len + 11] = 'P';
+    sheet[len + 11] = letter;
     return chains(sheet, len + 12, list, p + q, number, wanted, least, on, 0);
+}
+
+/* the same with the mark CP */
+static int rows(const uint16_t *top, const uint16_t *bottom, size_t columns, uint32_t number, uint32_t wanted, uint32_t least,
+                uint32_t on) {
+    return marked_rows('P', top, bottom, columns, number, wanted, least, on);
 }
 
 /* a list of sheet BOUND that is refused with 14 and this amount, measured, for tracks and for the chain */
@@ -282,17 +295,20 @@ static int many(unsigned modules, unsigned pins, uint32_t number, size_t len) {
 
 int main(void) {
     static const uint8_t best[4] = {2, 3, 1, 2}, leftmost[4] = {1, 2, 1, 2}, rival[4] = {1, 2, 2, 3};
-    static const uint8_t shared[4] = {2, 2, 1, 3}, zero[4] = {2, 2, 0, 1}, above[4] = {2, 65, 1, 2};
+    static const uint8_t ones[2] = {1, 1}, shared[4] = {2, 2, 1, 3}, zero[4] = {2, 2, 0, 1}, above[4] = {2, 65, 1, 2};
     static const uint8_t bound[6] = {1, 3, 4, 1, 4, 5}, beyond[6] = {5, 2, 3, 1, 4, 9};
     static const uint8_t apart[3] = {1, 2, 2}, together[3] = {1, 2, 1}, past[3] = {2, 3, 1};
     static const uint8_t rising[3] = {1, 2, 3}, spread[6] = {1, 3, 4, 2, 5, 6};
     static const uint8_t again[7] = {1, 2, 3, 5, 1, 4, 6}, pair[7] = {1, 2, 3, 5, 1, 4, 5};
     static const struct cazdrob_span of_best[2] = {{2, 1, 3, 1}, {1, 2, 2, 0}}, of_rival[2] = {{1, 1, 3, 1}, {2, 2, 2, 0}};
+    static const struct cazdrob_span counted_best[2] = {{2, 1, 3, 1}, {1, 2, 2, 2}}, counted_rival[2] = {{1, 1, 3, 1}, {2, 2, 2, 2}};
+    static const struct cazdrob_span of_straight[1] = {{7, 1, 1, 0}}, counted_straight[1] = {{7, 1, 1, 1}};
     static const struct cazdrob_span of_rising[3] = {{60001, 1, 1, 1}, {65535, 1, 3, 2}, {62001, 3, 3, 1}};
     static const struct cazdrob_span of_turned[3] = {{60001, 1, 2, 1}, {65535, 1, 3, 2}, {62001, 3, 3, 1}};
     static const struct cazdrob_span of_spread[3] = {{1, 1, 6, 1}, {3, 2, 4, 2}, {2, 3, 5, 3}};
     static const struct cazdrob_span of_again[3] = {{4, 1, 3, 1}, {5, 2, 4, 2}, {6, 5, 6, 1}};
     static const struct cazdrob_span of_pair[3] = {{4, 1, 3, 1}, {5, 2, 4, 2}, {6, 5, 5, 0}};
+    static const struct cazdrob_span counted_pair[3] = {{4, 1, 3, 1}, {5, 2, 4, 2}, {6, 5, 5, 1}};
     static const struct cazdrob_span of_single[4] = {{4, 1, 3, 1}, {5, 2, 4, 2}, {6, 5, 5, 0}, {7, 6, 6, 0}};
     static const uint8_t ahead[4] = {1, 3, 1, 2};
     static const uint16_t steps[4] = {1, 1, 2, 3}, under[4] = {0, 2, 3, 0}, plain[4] = {4, 1, 2, 3}, leaving[4] = {4, 60001, 2, 3};
@@ -302,10 +318,13 @@ int main(void) {
     static const uint16_t into[4] = {1, 0, 8, 9}, from_into[4] = {8, 1, 9, 8}, out[4] = {8, 0, 8, 9}, from_out[4] = {1, 1, 9, 8};
     static const uint16_t between[8] = {1, 8, 9, 8, 2, 5, 6, 5}, from_between[8] = {8, 9, 8, 2, 5, 6, 5, 3};
     static const uint16_t bytes[2] = {512, 257}, swapped[2] = {257, 512}, last[2] = {65535, 65534}, last_swapped[2] = {65534, 65535};
+    static const uint16_t wire[3] = {2, 1, 2}, under_wire[3] = {0, 1, 0}, two[4] = {1, 5, 1, 1}, under_two[4] = {2, 5, 2, 0};
     static const uint8_t placed[4] = {1, 3, 5, 3}, bare[10] = {3, 0, 7, 0, 0, 0, 0, 0, 0, 0};
     static const uint8_t nowhere[24] = {6, 0, 0, 0, 0, 0, 0, 0, 0, 0, 0, 0, 0, 0, 0, 0, 0, 0, 1, 0, 5, 0, 'C', 'P'};
     static const uint8_t twice_trailer[12] = {0, 0, 3, 0, 36, 0, 3, 0, 5, 0, 'C', 'P'};
     uint8_t sheet[60], turned[48], single[96], top[29], wider[13], twice[84];
+    /* the same sheets with the mark CQ */
+    uint8_t counted[60], straight_pair[36], routed[96], leaving_three[48];
     uint16_t long_top[64], long_bottom[64];
 
     EXPECT(cazdrob_check(A, 60) == 0);
@@ -322,7 +341,19 @@ int main(void) {
     EXPECT(cazdrob_check(A, 11) == CAZDROB_SHORT);
     EXPECT(cazdrob_cells(A, 11) == 0);
     EXPECT(refused(search(A, 11, 4, 144), CAZDROB_SHORT, 0));
+    /* letters that are nearly a mark */
     EXPECT(refuses(59, 'X', CAZDROB_MARK));
+    EXPECT(refuses(59, 'W', CAZDROB_MARK));
+    EXPECT(refuses(59, 'O', CAZDROB_MARK));
+    EXPECT(refuses(59, 'R', CAZDROB_MARK));
+    EXPECT(refuses(59, 'p', CAZDROB_MARK));
+    EXPECT(refuses(59, 'q', CAZDROB_MARK));
+    EXPECT(refuses(59, 'C', CAZDROB_MARK));
+    EXPECT(refuses(59, 0, CAZDROB_MARK));
+    EXPECT(refuses(58, 'c', CAZDROB_MARK));
+    EXPECT(refuses(58, 'P', CAZDROB_MARK));
+    EXPECT(refuses(58, 'Q', CAZDROB_MARK));
+    EXPECT(refuses(58, 0, CAZDROB_MARK));
     EXPECT(refuses(56, 0, CAZDROB_LENGTH));
     EXPECT(refuses(56, 65, CAZDROB_LENGTH));
     EXPECT(refuses(50, 65, CAZDROB_COUNT));
@@ -488,6 +519,62 @@ int main(void) {
     memcpy(sheet, A, sizeof A);
     sheet[4] = 6;
     EXPECT(chains(sheet, 60, leftmost, 4, CAZDROB_NOT_ALLOWED, 0, 0, 0, 0));
+
+    memcpy(counted, A, sizeof A);
+    memcpy(straight_pair, PAIR, sizeof PAIR);
+    memcpy(routed, ROUTED, sizeof ROUTED);
+    memcpy(leaving_three, LEAVING, sizeof LEAVING);
+    counted[59] = straight_pair[35] = routed[95] = leaving_three[47] = 'Q';
+    EXPECT(cazdrob_check(counted, 60) == 0);
+    EXPECT(cazdrob_cells(counted, 60) == 144);
+    EXPECT(cazdrob_check(counted, 11) == CAZDROB_SHORT);
+    /* every assignment has density 2, and the smallest word leaves column 3 empty */
+    EXPECT(found(search(counted, 60, 4, 144), 2, leftmost, 4, 144));
+    EXPECT(measures(counted, 60, best, 4, 0, 2, 0));
+    EXPECT(measures(counted, 60, leftmost, 4, 0, 2, 0));
+    EXPECT(measures(counted, 60, rival, 4, 0, 2, 0));
+    EXPECT(measures(counted, 60, zero, 4, CAZDROB_NOT_ALLOWED, 0, 0));
+    EXPECT(measures(counted, 60, shared, 4, CAZDROB_OUT_OF_RANGE, 0, -1));
+    EXPECT(refused(search(counted, 60, 3, 144), CAZDROB_COLUMNS, 0));
+    EXPECT(refused(search(counted, 60, 4, 143), CAZDROB_CELLS, 0));
+    /* a straight pair alone, under both marks */
+    EXPECT(found(search(PAIR, 36, 2, 16), 0, ones, 2, 16));
+    EXPECT(found(search(straight_pair, 36, 2, 16), 1, ones, 2, 16));
+    EXPECT(measures(PAIR, 36, ones, 2, 0, 0, 0));
+    EXPECT(measures(straight_pair, 36, ones, 2, 0, 1, 0));
+    EXPECT(routes(PAIR, 36, ones, 2, 1, 0, of_straight, 1, 0, 0));
+    EXPECT(routes(straight_pair, 36, ones, 2, 1, 0, counted_straight, 1, 1, 0));
+    EXPECT(chains(PAIR, 36, ones, 2, 0, 0, 0, 0, 0));
+    EXPECT(chains(straight_pair, 36, ones, 2, 0, 0, 1, 0, 0));
+    /* with one pin a plain net counts nowhere, and nets that leave count as they did */
+    straight_pair[12] = 8;
+    EXPECT(found(search(straight_pair, 36, 2, 16), 0, ones, 2, 16));
+    EXPECT(measures(straight_pair, 36, ones, 2, 0, 0, 0));
+    EXPECT(chains(straight_pair, 36, ones, 2, 0, 0, 0, 0, 0));
+    single[72] = 7, single[73] = 0, single[95] = 'Q';
+    EXPECT(routes(single, 96, again, 7, 4, 0, of_single, 4, 2, 0));
+    EXPECT(found(search(leaving_three, 48, 3, 96), 2, apart, 3, 96));
+    EXPECT(measures(leaving_three, 48, together, 3, 0, 3, 0));
+    EXPECT(routes(leaving_three, 48, rising, 3, 3, 0, of_rising, 3, 2, 0));
+    /* a straight wire takes a track: its own under a net that crosses its column, else the lowest */
+    EXPECT(routes(counted, 60, best, 4, 2, 0, counted_best, 2, 2, 0));
+    EXPECT(routes(counted, 60, rival, 4, 2, 0, counted_rival, 2, 2, 0));
+    EXPECT(routes(routed, 96, again, 7, 3, 0, of_again, 3, 2, 0));
+    EXPECT(routes(routed, 96, pair, 7, 3, 0, counted_pair, 3, 2, 0));
+    EXPECT(routes(counted, 60, leftmost, 4, 2, CAZDROB_TWO_NETS, NULL, 0, 0, 0));
+    EXPECT(routes(counted, 60, best, 4, 1, CAZDROB_SPAN_BUFFER, NULL, 0, 0, 0));
+    /* what lies over what is the same; the bound has the density of the sheet */
+    EXPECT(chains(counted, 60, best, 4, 0, 0, 2, 0, 0));
+    EXPECT(chains(counted, 60, ahead, 4, 0, 2, 2, 0, 0));
+    EXPECT(chains(counted, 60, leftmost, 4, CAZDROB_CIRCLE, 0, 0, 1, 0));
+    EXPECT(chains(counted, 60, shared, 4, CAZDROB_OUT_OF_RANGE, 0, 0, 0, -1));
+    EXPECT(rows(wire, under_wire, 3, 0, 0, 1, 0));
+    EXPECT(marked_rows('Q', wire, under_wire, 3, 0, 0, 2, 0));
+    EXPECT(rows(two, under_two, 4, 0, 2, 2, 0));
+    EXPECT(marked_rows('Q', two, under_two, 4, 0, 2, 3, 0));
+    EXPECT(marked_rows('Q', yk_top, yk_bottom, 12, 0, 4, 5, 0));
+    EXPECT(marked_rows('Q', into, from_into, 4, CAZDROB_CIRCLE, 0, 0, 8));
+    EXPECT(marked_rows('X', wire, under_wire, 3, CAZDROB_MARK, 0, 0, 0));
 
     EXPECT(makes(5, TOP, 29, BOTTOM, 13, 60, 0, MADE, 60));
     EXPECT(makes(5, TOP, 29, BOTTOM, 13, CAZDROB_SHEET_MAX, 0, MADE, 60));
