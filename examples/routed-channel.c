@@ -1,7 +1,7 @@
 /*
  * Searches the sheet on standard input and prints the routed channel: for each net the columns that it runs from and to, and its track. A
- * straight wire needs no track and has 0. Where the best assignment has pins of two nets in a column this prints 'refused 18', and of a
- * refused sheet its number.
+ * net that needs none has 0, such as a straight wire on a CP sheet. Where the best assignment has pins of two nets in a column this prints
+ * 'refused 18', and of a refused sheet its number.
  *
  *     cc examples/routed-channel.c $(pkg-config --cflags --libs cazdrob) -o routed-channel
  *     ./routed-channel < examples/routed-channel.sheet
