@@ -45,7 +45,7 @@ enum cazdrob_number {
     /* the sheet: given by cazdrob_check, cazdrob_measure, cazdrob_search, cazdrob_tracks and cazdrob_chain; 3, 4 and 6 by cazdrob_modules
      * too, 8 by cazdrob_beyond */
     CAZDROB_SHORT = 1,    /* the sheet is shorter than 12 bytes */
-    CAZDROB_MARK = 2,     /* its last two bytes are not CP */
+    CAZDROB_MARK = 2,     /* its last two bytes are neither CP nor CQ */
     CAZDROB_LENGTH = 3,   /* L is 0 or above 64 */
     CAZDROB_COUNT = 4,    /* p or q is above 64 */
     CAZDROB_LAYOUT = 5,   /* the sheet's length or the sections' offsets break the rule */
@@ -103,8 +103,9 @@ int32_t cazdrob_distance(uint8_t before, uint8_t column, uint8_t least, uint8_t 
 /*
  * The density of a column list: p+q columns, those of the top terminals in order, then those of the bottom terminals. It is the greatest
  * number of nets that cross a column. Nets above 60,000 leave the channel by an end, or by both, and count in every column up to there
- * (docs/FORMAT.md, "Nets that leave"); the least density of a search counts them likewise. The sheet and the list may overlap, as neither
- * is written. What density and amount held before plays no part.
+ * (docs/FORMAT.md, "Nets that leave"). A plain net whose two pins share a column, a straight wire, counts in that column if the sheet's
+ * mark is CQ, and nowhere if it is CP. The least density of a search counts likewise. The sheet and the list may overlap, as neither is
+ * written. What density and amount held before plays no part.
  *
  *   returned          *density     *amount
  *   0                 the density  0
@@ -145,7 +146,8 @@ struct cazdrob_span {
  * Each net of the sheet gets a record, by rising left end and, of equal left ends, by rising net. The ends are the columns of its leftmost
  * and its rightmost pin; a net that leaves the channel at the left has column 1 as its left end, one that leaves at the right column L as
  * its right end. In this order each net gets the lowest track, from 1, on which none before it has a column in common with it, the ends
- * included. A net that crosses no column, a plain one with all its pins in one column, has that column as both ends and gets track 0.
+ * included. A net that crosses no column has the one column of its pins as both ends and gets track 0: a plain one with one pin, and on a
+ * CP sheet a straight wire.
  *
  * The refusals, in their order:
  *   1 to 8 and 12 to 14, as of cazdrob_measure;
@@ -193,7 +195,7 @@ uint32_t cazdrob_chain(const uint8_t *sheet, size_t sheet_len,
 /*
  * Makes the sheet of two sides of modules, such as two rows of standard cells. A module covers some columns, has its pins in fixed places
  * and moves whole. The sheet's assignments are the placements without overlap, one to one: where a module's left edge is in column e, its
- * pin with offset o is in column e + o - 1. The sheet has its top section first.
+ * pin with offset o is in column e + o - 1. The sheet has its top section first, and the mark CP.
  *
  * length is L, the columns of the channel. A side is a list of its modules from left to right, up to the list's end; an empty list is a
  * side with no modules. The two lists may overlap, as neither is written. A module has
