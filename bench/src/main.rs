@@ -4,7 +4,7 @@ mod plain;
 mod sheets;
 
 use cazdrob::{Chain, Refusal, Span, Tracks, NETS_MAX};
-use sheets::{drawn_pairs, one_chain, open, sets, sheet, sheet_with, Plan};
+use sheets::{drawn_pairs, one_chain, open, sets, sheet, sheet_with, straight_wires, Plan};
 use std::hint::black_box;
 use std::process::ExitCode;
 use std::time::{Duration, Instant};
@@ -67,6 +67,13 @@ impl Trial {
     fn full(nets: Vec<usize>) -> Trial {
         let plan = open(64, 64);
         Trial { sheet: sheet_with(&plan, nets), list: (1..=64).chain(1..=64).collect(), ..Trial::new(&plan) }
+    }
+
+    /// With the mark CQ and a straight wire in columns 1, 3, 5 and so on.
+    fn straight() -> Trial {
+        let plan = Plan { mark: b"CQ", bottom: 32, ..open(64, 64) };
+        let list = (1..=64).chain((1..=64).step_by(2)).collect();
+        Trial { sheet: sheet_with(&plan, straight_wires()), list, ..Trial::new(&plan) }
     }
 
     fn job(&mut self, job: Job) -> Answer {
@@ -215,16 +222,18 @@ fn rows() -> Vec<(&'static str, Plan)> {
         ("32 a side on 64", open(32, 64)),
         ("32 a side on 64, ranges 1 to 4", Plan { range: (1, 4), ..open(32, 64) }),
         ("16 a side on 40, no assignment", Plan { last_top: 15, ..open(16, 40) }),
+        ("16 a side on 40, CQ", Plan { mark: b"CQ", ..open(16, 40) }),
     ]
 }
 
-fn track_rows() -> Vec<(&'static str, Plan)> {
+fn track_rows() -> Vec<(&'static str, Trial)> {
     vec![
-        ("5 a side on 12", open(5, 12)),
-        ("16 a side on 40", open(16, 40)),
-        ("32 a side on 64", open(32, 64)),
-        ("32 a side on 64, two pins a net", Plan { nets: 32, ..open(32, 64) }),
-        ("32 a side on 64, leaving nets", Plan { nets: 64, first_net: 64_001, ..open(32, 64) }),
+        ("5 a side on 12", Trial::clean(&open(5, 12))),
+        ("16 a side on 40", Trial::clean(&open(16, 40))),
+        ("32 a side on 64", Trial::clean(&open(32, 64))),
+        ("32 a side on 64, two pins a net", Trial::clean(&Plan { nets: 32, ..open(32, 64) })),
+        ("32 a side on 64, leaving nets", Trial::clean(&Plan { nets: 64, first_net: 64_001, ..open(32, 64) })),
+        ("64 over 32 on 64, CQ", Trial::straight()),
     ]
 }
 
@@ -299,7 +308,8 @@ take at least {} ms. The two take turns, on the same sheet and the same buffers,
 Before the timing both gave the same answer, the same columns and the same density of them.
 Both leave every work cell 0, as the rules ask. clearing: the share of that in the plain program's time.
 Row 5 is row 2 with the last top terminal held to columns 1 to 15. No list is an assignment of it: the measured one
-has the columns 1 to 16 on each side and both refuse it with 13.",
+has the columns 1 to 16 on each side and both refuse it with 13. Row 6 is row 2 with the mark CQ, so that straight
+wires count.",
         SHORTEST_RUN.as_millis()
     );
     Ok(())
@@ -328,8 +338,7 @@ gave the same answers. In rows 3 to 5 a time is that of 128 calls, one for each 
 fn track_table() -> Result<(), String> {
     println!("\nTracks of clean assignments\n");
     println!("{:<3}  {:<31}  {:>4}  {:>6}  {:>11}{:>11}{:>8}", "row", "sheet", "nets", "tracks", "Cazdrob", "plain", "ratio");
-    for (k, (name, plan)) in track_rows().iter().enumerate() {
-        let mut trial = Trial::clean(plan);
+    for (k, (name, mut trial)) in track_rows().into_iter().enumerate() {
         let Tracks { nets, tracks } = trial.agree_on_tracks().map_err(|why| format!("row {} of tracks: {why}", k + 1))?;
         let [ours, plain] = trial.time([Job::Tracks, Job::PlainTracks]);
         let ratio = plain / ours;
@@ -338,7 +347,8 @@ fn track_table() -> Result<(), String> {
     println!(
         "
 The top pins are in columns 1, 3, 5 and so on, the bottom pins in columns 2, 4, 6 and so on. Before the timing both
-gave the same tracks and left the same records. Row 5 has 64 nets of one pin that leave at both ends."
+gave the same tracks and left the same records. Row 5 has 64 nets of one pin that leave at both ends. Row 6 has a
+straight wire in columns 1, 3, 5 and so on, top pins of 16 nets between them, and the mark CQ."
     );
     Ok(())
 }
@@ -429,12 +439,13 @@ fn only(words: &[String]) -> Result<(), String> {
         "plain-chain" => Job::PlainChain,
         _ => return Err(usage.into()),
     };
-    let of = |rows: Vec<(&'static str, Plan)>, trial: fn(&Plan) -> Trial| rows.iter().map(|(_, plan)| trial(plan)).collect();
+    let planned = |rows: Vec<(&'static str, Plan)>| rows.iter().map(|(_, plan)| Trial::new(plan)).collect();
+    let made = |rows: Vec<(&'static str, Trial)>| rows.into_iter().map(|(_, trial)| trial).collect();
     let trials: Vec<Trial> = match job {
-        Job::Tracks | Job::PlainTracks => of(track_rows(), Trial::clean),
-        Job::Check | Job::PlainCheck | Job::Test | Job::PlainTest => of(check_rows(), Trial::new),
-        Job::Chain | Job::PlainChain => chain_rows().into_iter().map(|(_, trial)| trial).collect(),
-        _ => of(rows(), Trial::new),
+        Job::Tracks | Job::PlainTracks => made(track_rows()),
+        Job::Check | Job::PlainCheck | Job::Test | Job::PlainTest => planned(check_rows()),
+        Job::Chain | Job::PlainChain => made(chain_rows()),
+        _ => planned(rows()),
     };
     let mut trial = row.checked_sub(1).and_then(|k| trials.into_iter().nth(k)).ok_or("no such row")?;
     if matches!(job, Job::Measure | Job::PlainMeasure) {

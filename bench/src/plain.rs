@@ -21,6 +21,8 @@ impl Terminal {
 }
 
 struct Channel {
+    /// a plain net whose two pins share a column counts there
+    counts_straight: bool,
     length: usize,
     top: Vec<Terminal>,
     bottom: Vec<Terminal>,
@@ -65,15 +67,17 @@ fn read_side(section: &[u8], length: usize) -> Result<Vec<Terminal>, u32> {
     Ok(side)
 }
 
-/// The number of columns and the two sections of a sheet, or the number of its refusal, 1 to 5.
-fn layout(sheet: &[u8]) -> Result<(usize, &[u8], &[u8]), u32> {
+/// Whether a sheet counts straight wires, by its mark, its number of columns and its two sections, or the number of its refusal, 1 to 5.
+fn layout(sheet: &[u8]) -> Result<(bool, usize, &[u8], &[u8]), u32> {
     if sheet.len() < 12 {
         return Err(1);
     }
     let trailer = &sheet[sheet.len() - 12..];
-    if trailer[10..] != *b"CP" {
-        return Err(2);
-    }
+    let counts_straight = match &trailer[10..] {
+        b"CP" => false,
+        b"CQ" => true,
+        _ => return Err(2),
+    };
     let (top, p, bottom, q) = (half(trailer, 0), half(trailer, 2), half(trailer, 4), half(trailer, 6));
     let length = half(trailer, 8);
     if length == 0 || length > 64 {
@@ -86,18 +90,18 @@ fn layout(sheet: &[u8]) -> Result<(usize, &[u8], &[u8]), u32> {
     if sheet.len() != 12 * (p + q) + 12 || !in_place {
         return Err(5);
     }
-    Ok((length, &sheet[top..top + 12 * p], &sheet[bottom..bottom + 12 * q]))
+    Ok((counts_straight, length, &sheet[top..top + 12 * p], &sheet[bottom..bottom + 12 * q]))
 }
 
 /// Reads a sheet, or gives the number of its refusal, 1 to 8.
 fn read(sheet: &[u8]) -> Result<Channel, u32> {
-    let (length, top, bottom) = layout(sheet)?;
-    Ok(Channel { length, top: read_side(top, length)?, bottom: read_side(bottom, length)? })
+    let (counts_straight, length, top, bottom) = layout(sheet)?;
+    Ok(Channel { counts_straight, length, top: read_side(top, length)?, bottom: read_side(bottom, length)? })
 }
 
 /// Whether a sheet is sound, or the number of its refusal, 1 to 8. Nothing is kept of its terminals.
 pub fn check(sheet: &[u8]) -> Result<(), u32> {
-    let (length, top, bottom) = layout(sheet)?;
+    let (_, length, top, bottom) = layout(sheet)?;
     for section in [top, bottom] {
         for terminal in terminals(section, length) {
             terminal?;
@@ -122,6 +126,8 @@ struct Places {
 struct Net {
     number: u16,
     leaves: (bool, bool),
+    /// counts in a column that has all its pins, as a net that leaves does in any case
+    straight: bool,
     top: Places,
     bottom: Places,
 }
@@ -131,10 +137,16 @@ fn collect_nets(channel: &Channel) -> Vec<Net> {
     let mut nets: Vec<Net> = Vec::new();
     for (on_top, side) in [(true, &channel.top), (false, &channel.bottom)] {
         for (place, terminal) in side.iter().enumerate() {
-            let at = nets.iter().position(|net| net.number == terminal.net).unwrap_or_else(|| {
-                nets.push(Net { number: terminal.net, leaves: leaves(terminal.net), top: none, bottom: none });
-                nets.len() - 1
-            });
+            let at = match nets.iter().position(|net| net.number == terminal.net) {
+                Some(at) => {
+                    nets[at].straight = channel.counts_straight;
+                    at
+                }
+                None => {
+                    nets.push(Net { number: terminal.net, leaves: leaves(terminal.net), straight: false, top: none, bottom: none });
+                    nets.len() - 1
+                }
+            };
             let places = if on_top { &mut nets[at].top } else { &mut nets[at].bottom };
             places.first = places.first.min(place + 1);
             places.last = place + 1;
@@ -151,7 +163,7 @@ fn crossing(nets: &[Net], before: (usize, usize), up_to: (usize, usize), in_colu
         // a net that leaves goes on beyond the end
         let left = net.leaves.0 || net.top.first <= before.0 || net.bottom.first <= before.1;
         let right = net.leaves.1 || net.top.last > up_to.0 || net.bottom.last > up_to.1;
-        let crosses = if in_column(net) { left || right } else { left && right };
+        let crosses = if in_column(net) { left || right || net.straight } else { left && right };
         count += u16::from(crosses);
     }
     count
@@ -343,19 +355,30 @@ fn assigned(sheet: &[u8], columns: &[u8]) -> Result<Channel, (u32, i32)> {
     Ok(channel)
 }
 
-/// The nets with their leftmost and rightmost columns, 0 and L + 1 where they leave.
-fn stretches(channel: &Channel, columns: &[u8]) -> Vec<(u16, u8, u8)> {
-    let mut nets: Vec<(u16, u8, u8)> = Vec::with_capacity(columns.len());
+/// A net with its leftmost and its rightmost column, 0 and L + 1 where it leaves, and whether it crosses any.
+#[derive(Clone, Copy)]
+struct Stretch {
+    net: u16,
+    left: u8,
+    right: u8,
+    crosses: bool,
+}
+
+fn stretches(channel: &Channel, columns: &[u8]) -> Vec<Stretch> {
+    let mut nets: Vec<Stretch> = Vec::with_capacity(columns.len());
     for (terminal, &column) in channel.top.iter().chain(&channel.bottom).zip(columns) {
-        match nets.iter_mut().find(|net| net.0 == terminal.net) {
-            Some(net) => {
-                net.1 = net.1.min(column);
-                net.2 = net.2.max(column);
+        match nets.iter_mut().find(|stretch| stretch.net == terminal.net) {
+            Some(stretch) => {
+                stretch.left = stretch.left.min(column);
+                stretch.right = stretch.right.max(column);
+                // a plain net whose pins share one column crosses it where straight wires count
+                stretch.crosses = stretch.left < stretch.right || channel.counts_straight;
             }
             None => {
-                let (left, right) = leaves(terminal.net);
-                let rightmost = if right { channel.length as u8 + 1 } else { column };
-                nets.push((terminal.net, if left { 0 } else { column }, rightmost));
+                let leaves = leaves(terminal.net);
+                let left = if leaves.0 { 0 } else { column };
+                let right = if leaves.1 { channel.length as u8 + 1 } else { column };
+                nets.push(Stretch { net: terminal.net, left, right, crosses: left < right });
             }
         }
     }
@@ -368,9 +391,9 @@ pub fn measure(sheet: &[u8], columns: &[u8]) -> Result<u32, (u32, i32)> {
     Ok(density(&channel, &stretches(&channel, columns)))
 }
 
-fn density(channel: &Channel, nets: &[(u16, u8, u8)]) -> u32 {
-    // a plain net whose pins share one column crosses nothing
-    let crossings = (1..=channel.length as u8).map(|c| nets.iter().filter(|net| net.1 < net.2 && net.1 <= c && c <= net.2).count());
+fn density(channel: &Channel, nets: &[Stretch]) -> u32 {
+    let crosses = |net: &Stretch, column: u8| net.crosses && net.left <= column && column <= net.right;
+    let crossings = (1..=channel.length as u8).map(|column| nets.iter().filter(|net| crosses(net, column)).count());
     crossings.max().unwrap_or(0) as u32
 }
 
@@ -393,11 +416,10 @@ pub fn tracks(sheet: &[u8], columns: &[u8], spans: &mut [Span]) -> Result<Tracks
     if spans.len() < nets.len() {
         return Err((9, 0));
     }
-    nets.sort_unstable_by_key(|&(net, left, _)| (left.max(1), net));
+    nets.sort_unstable_by_key(|stretch| (stretch.left.max(1), stretch.net));
     // the last column of the last net on each track
     let mut ends: Vec<u8> = Vec::new();
-    for (span, &(net, left, right)) in spans.iter_mut().zip(&nets) {
-        let crosses = left < right;
+    for (span, &Stretch { net, left, right, crosses }) in spans.iter_mut().zip(&nets) {
         let (left, right) = (left.max(1), right.min(channel.length as u8));
         let mut track = 0;
         if crosses {
@@ -416,9 +438,9 @@ pub fn tracks(sheet: &[u8], columns: &[u8], spans: &mut [Span]) -> Result<Tracks
 
 /// For each net, by its place among the stretches, those that it lies over. A plain net whose pins share one column lies over none, and
 /// none over it: it has one pin, or both pins of the column.
-fn constraints(channel: &Channel, columns: &[u8], nets: &[(u16, u8, u8)]) -> Vec<Vec<usize>> {
+fn constraints(channel: &Channel, columns: &[u8], nets: &[Stretch]) -> Vec<Vec<usize>> {
     let (on_top, at_bottom) = columns.split_at(channel.top.len());
-    let place = |net: u16| nets.iter().position(|other| other.0 == net).filter(|&place| nets[place].1 < nets[place].2);
+    let place = |net: u16| nets.iter().position(|other| other.net == net).filter(|&place| nets[place].left < nets[place].right);
     // the net of the top pin of each column
     let mut over = [None; 65];
     for (terminal, &column) in channel.top.iter().zip(on_top) {
@@ -487,7 +509,7 @@ pub fn chain(sheet: &[u8], columns: &[u8]) -> Result<Chain, (u32, i32, u16)> {
     for net in 0..nets.len() {
         let Some(chain) = longest_from(&below, &mut colours, net) else {
             let on_circles = (0..nets.len()).filter(|&net| comes_back(&below, net));
-            return Err((19, 0, on_circles.map(|net| nets[net].0).min().unwrap_or(0)));
+            return Err((19, 0, on_circles.map(|net| nets[net].net).min().unwrap_or(0)));
         };
         longest = longest.max(chain);
     }

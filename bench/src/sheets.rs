@@ -10,10 +10,17 @@ impl Draws {
         self.0 ^= self.0 << 17;
         (self.0 % n as u64) as usize
     }
+
+    fn shuffle(&mut self, items: &mut [usize]) {
+        for k in (1..items.len()).rev() {
+            items.swap(k, self.below(k + 1));
+        }
+    }
 }
 
 #[derive(Clone, Copy)]
 pub struct Plan {
+    pub mark: &'static [u8; 2],
     pub length: usize,
     pub top: usize,
     pub bottom: usize,
@@ -28,7 +35,8 @@ pub struct Plan {
 
 /// Full sets, no distance that binds, and nets of two to four pins that have a pin on each side.
 pub fn open(pins: usize, length: usize) -> Plan {
-    Plan { length, top: pins, bottom: pins, nets: (2 * pins * 2).div_ceil(5), first_net: 1, range: (1, 255), last_top: length }
+    let nets = (2 * pins * 2).div_ceil(5);
+    Plan { mark: b"CP", length, top: pins, bottom: pins, nets, first_net: 1, range: (1, 255), last_top: length }
 }
 
 /// Sets of the columns from 1 to a drawn one.
@@ -44,9 +52,7 @@ pub fn sheet(plan: &Plan) -> Vec<u8> {
     let mut nets: Vec<usize> = (0..pins).map(|k| plan.first_net + k % plan.nets).collect();
     let (top, bottom) = nets.split_at_mut(plan.top);
     for side in [top, bottom] {
-        for k in (1..side.len()).rev() {
-            side.swap(k, draws.below(k + 1));
-        }
+        draws.shuffle(side);
     }
     sheet_with(plan, nets)
 }
@@ -67,6 +73,14 @@ pub fn drawn_pairs(in_order: bool) -> Vec<usize> {
     nets
 }
 
+/// 64 nets on top and 32 at the bottom: on top 32 that are at the bottom too, and after each a pin of one of 16 others.
+pub fn straight_wires() -> Vec<usize> {
+    let mut draws = Draws(0x3c6e_f372_fe94_f82a);
+    let mut others: Vec<usize> = (0..32).map(|k| 33 + k % 16).collect();
+    draws.shuffle(&mut others);
+    (1..=32).zip(others).flat_map(|(straight, other)| [straight, other]).chain(1..=32).collect()
+}
+
 /// The bytes of a sheet with these nets, top then bottom.
 pub fn sheet_with(plan: &Plan, nets: Vec<usize>) -> Vec<u8> {
     let mut bytes = Vec::with_capacity(12 * nets.len() + 12);
@@ -81,6 +95,6 @@ pub fn sheet_with(plan: &Plan, nets: Vec<usize>) -> Vec<u8> {
     for number in [0, plan.top, 12 * plan.top, plan.bottom, plan.length] {
         bytes.extend((number as u16).to_le_bytes());
     }
-    bytes.extend(b"CP");
+    bytes.extend(plan.mark);
     bytes
 }
