@@ -4,7 +4,7 @@ mod plain;
 mod sheets;
 
 use cazdrob::{Chain, Refusal, Span, Tracks, NETS_MAX};
-use sheets::{drawn_pairs, one_chain, open, sets, sheet, sheet_with, straight_wires, Plan};
+use sheets::{drawn_pairs, leaving, one_chain, open, sets, sheet, sheet_with, straight_wires, Plan, Sets};
 use std::hint::black_box;
 use std::process::ExitCode;
 use std::time::{Duration, Instant};
@@ -215,15 +215,24 @@ fn low_byte(sheet: &[u8], from_end: usize) -> u8 {
     sheet[sheet.len() - from_end]
 }
 
-fn rows() -> Vec<(&'static str, Plan)> {
-    vec![
+fn rows() -> Vec<(&'static str, Trial)> {
+    let cq = Plan { mark: b"CQ", ..open(16, 40) };
+    let plans = [
         ("5 a side on 12", open(5, 12)),
         ("16 a side on 40", open(16, 40)),
         ("32 a side on 64", open(32, 64)),
         ("32 a side on 64, ranges 1 to 4", Plan { range: (1, 4), ..open(32, 64) }),
-        ("16 a side on 40, no assignment", Plan { last_top: 15, ..open(16, 40) }),
-        ("16 a side on 40, CQ", Plan { mark: b"CQ", ..open(16, 40) }),
-    ]
+        ("16 a side on 40, no assignment", Plan { sets: Sets::LastTop(15), ..open(16, 40) }),
+        ("16 a side on 40, CQ", cq),
+        ("5 a side on 12, ranges 1 to 3", Plan { range: (1, 3), ..open(5, 12) }),
+        ("5 a side on 12, drawn sets", Plan { sets: Sets::Drawn, ..open(5, 12) }),
+        ("16 a side on 40, half sets", Plan { sets: Sets::Half, ..open(16, 40) }),
+        ("64 a side on 64", open(64, 64)),
+        ("16 a side on 40, held apart", Plan { sets: Sets::Apart, ..open(16, 40) }),
+    ];
+    let mut rows: Vec<(&'static str, Trial)> = plans.iter().map(|(name, plan)| (*name, Trial::new(plan))).collect();
+    rows.push(("16 a side on 40, CQ, leaving", Trial { sheet: sheet_with(&cq, leaving(&cq)), ..Trial::new(&cq) }));
+    rows
 }
 
 fn track_rows() -> Vec<(&'static str, Trial)> {
@@ -239,13 +248,12 @@ fn track_rows() -> Vec<(&'static str, Trial)> {
 
 /// What a search of the first four rows finds, and then three sheets that have a pin on each side of every column.
 fn chain_rows() -> Vec<(&'static str, Trial)> {
-    let found = |plan: &Plan| {
-        let mut trial = Trial::new(plan);
+    let found = |mut trial: Trial| {
         let _ = trial.job(Job::Search);
         trial.list = trial.columns.clone();
         trial
     };
-    let mut rows: Vec<(&'static str, Trial)> = rows()[..4].iter().map(|(name, plan)| (*name, found(plan))).collect();
+    let mut rows: Vec<(&'static str, Trial)> = rows().into_iter().take(4).map(|(name, trial)| (name, found(trial))).collect();
     rows.push(("64 a side on 64, each over the next", Trial::full(one_chain())));
     rows.push(("64 a side on 64, no circle", Trial::full(drawn_pairs(true))));
     rows.push(("64 a side on 64, with circles", Trial::full(drawn_pairs(false))));
@@ -278,26 +286,25 @@ fn span(seconds: f64) -> String {
 }
 
 fn main_table() -> Result<(), String> {
-    println!("{:>39}search{:>30}measuring", "", "");
+    println!("{:>63}search{:>28}measuring", "", "");
     println!(
-        "{:<3}  {:<30}  {:>11}{:>11}{:>8}  {:>13}{:>11}{:>8}  {:>8}  {:>10}",
-        "row", "sheet", "Cazdrob", "plain", "ratio", "Cazdrob", "plain", "ratio", "clearing", "density"
+        "{:<3}  {:<31}  {:>11}{:>11}{:>11}{:>8}  {:>11}{:>11}{:>8}  {:>10}",
+        "row", "sheet", "clearing", "Cazdrob", "plain", "ratio", "Cazdrob", "plain", "ratio", "density"
     );
-    for (k, (name, plan)) in rows().iter().enumerate() {
-        let mut trial = Trial::new(plan);
+    for (k, (name, mut trial)) in rows().into_iter().enumerate() {
         let answer = trial.agree().map_err(|why| format!("row {}: {why}", k + 1))?;
         let [search, plain, clear] = trial.time([Job::Search, Job::PlainSearch, Job::Clear]);
         let [measure, plain_measure] = trial.time([Job::Measure, Job::PlainMeasure]);
         println!(
-            "{:<3}  {name:<30}  {:>11}{:>11}{:>8.2}  {:>13}{:>11}{:>8.2}  {:>7.1}%  {:>10}",
+            "{:<3}  {name:<31}  {:>11}{:>11}{:>11}{:>8.2}  {:>11}{:>11}{:>8.2}  {:>10}",
             k + 1,
+            span(clear),
             span(search),
             span(plain),
             plain / search,
             span(measure),
             span(plain_measure),
             plain_measure / measure,
-            100.0 * clear / plain,
             shown(answer),
         );
     }
@@ -306,10 +313,12 @@ fn main_table() -> Result<(), String> {
 ratio: the plain program's time over Cazdrob's. Each time is the median of {RUNS} runs, and a run is as many calls as
 take at least {} ms. The two take turns, on the same sheet and the same buffers, which are not cleared before a call.
 Before the timing both gave the same answer, the same columns and the same density of them.
-Both leave every work cell 0, as the rules ask. clearing: the share of that in the plain program's time.
+Both leave every work cell 0, as the rules ask. clearing: the time of that alone.
 Row 5 is row 2 with the last top terminal held to columns 1 to 15. No list is an assignment of it: the measured one
 has the columns 1 to 16 on each side and both refuse it with 13. Row 6 is row 2 with the mark CQ, so that straight
-wires count.",
+wires count. In row 8 a coin decides of each column whether a set has it, in row 9 each set has a drawn half of the
+columns. Row 11 is row 2 with the top terminals held to the left half and the bottom terminals to the right half. In
+row 12 a quarter of row 6's nets is plain, and a quarter each leaves at the left, at the right and at both ends.",
         SHORTEST_RUN.as_millis()
     );
     Ok(())
@@ -379,14 +388,21 @@ every column. Before the timing both gave the same chain and bound or, where the
 
 fn growth(title: &str, plans: &[Plan]) -> Result<(), String> {
     println!("\n{title}\n");
-    println!("{:>6}  {:>3}  {:>11}{:>8}  {:>11}{:>8}", "a side", "L", "Cazdrob", "growth", "plain", "growth");
-    let mut before: Option<[f64; 2]> = None;
+    println!(
+        "{:>6}  {:>3}  {:>11}{:>8}  {:>11}{:>8}  {:>11}{:>8}",
+        "a side", "L", "clearing", "growth", "Cazdrob", "growth", "plain", "growth"
+    );
+    let mut before: Option<[f64; 3]> = None;
     for plan in plans {
         let mut trial = Trial::new(plan);
         trial.agree().map_err(|why| format!("{} a side on {}: {why}", plan.top, plan.length))?.ok();
-        let times = trial.time([Job::Search, Job::PlainSearch]);
-        let grown = |k: usize| before.map_or_else(String::new, |before| format!("{:.2}", times[k] / before[k]));
-        println!("{:>6}  {:>3}  {:>11}{:>8}  {:>11}{:>8}", plan.top, plan.length, span(times[0]), grown(0), span(times[1]), grown(1));
+        let times = trial.time([Job::Clear, Job::Search, Job::PlainSearch]);
+        print!("{:>6}  {:>3}", plan.top, plan.length);
+        for k in 0..times.len() {
+            let grown = before.map_or_else(String::new, |before| format!("{:.2}", times[k] / before[k]));
+            print!("  {:>11}{grown:>8}", span(times[k]));
+        }
+        println!();
         before = Some(times);
     }
     Ok(())
@@ -445,7 +461,7 @@ fn only(words: &[String]) -> Result<(), String> {
         Job::Tracks | Job::PlainTracks => made(track_rows()),
         Job::Check | Job::PlainCheck | Job::Test | Job::PlainTest => planned(check_rows()),
         Job::Chain | Job::PlainChain => made(chain_rows()),
-        _ => planned(rows()),
+        _ => made(rows()),
     };
     let mut trial = row.checked_sub(1).and_then(|k| trials.into_iter().nth(k)).ok_or("no such row")?;
     if matches!(job, Job::Measure | Job::PlainMeasure) {
@@ -462,7 +478,7 @@ fn tables() -> Result<(), String> {
     track_table()?;
     chain_table()?;
     growth("Search as L doubles", &[16, 32, 64].map(|length| open(8, length)))?;
-    growth("Search as p and q double", &[4, 8, 16, 32].map(|pins| open(pins, 64)))?;
+    growth("Search as p and q double", &[4, 8, 16, 32, 64].map(|pins| open(pins, 64)))?;
     paper_table()
 }
 
