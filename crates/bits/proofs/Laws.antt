@@ -1,12 +1,13 @@
 -- How the bits of a word go through or, and, shifts and remainders.
 -- Assumes nothing.
 use Rattle.std.proofs.Common.{◌≡◌, ℕ, zero, suc, ◌+◌, ◌-◌, ◌*◌, ◌/◌, ◌%◌, ◌^◌, ◌<◌, ◌≤◌, Bool, true, false, ◌&&◌, ◌||◌, eqb, ltb, leb, ◌⊎◌, bit_and, bit_or, sym, refl, ap, ◌∙◌, inl, inr, add-zero, arith, w64, pow_pos, shr-shr, ltb-false, ltb-true, eq-eqb, ne_eqb, eqb-true, leb-false, leb-true}
+use Rattle.std.proofs.Math.Nat.{div-eq_of_lt-le, two-pow-succ}
 use Rattle.std.proofs.lemmas.Bool.{eqb-false}
-use Rattle.std.proofs.lemmas.Nat.{and_mod, or_mod, and_shr, or_shr}
+use Rattle.std.proofs.lemmas.Nat.{and_mod, or_mod, and_shr, or_shr, leading_length}
 use Rattle.std.proofs.lemmas.Nat.Bits.{bit_at_lowest, bit_at-zero, bit_at_ones, bit_at-trailing_zeros, bit_at_above, bit_at_cat_low, bit_at_cat_high}
 use Rattle.std.specs.Int.{bit_at, trailing_zeros}
-use Rattle.std.specs.Int.Count.{count_trailing_zeros, trailing_of_zero}
-use Rattle.channel.proofs.Below.{any_below_cong, any_below-from, any_below-none}
+use Rattle.std.specs.Int.Count.{count_leading_zeros, count_trailing_zeros, trailing_of_zero}
+use Rattle.channel.proofs.Below.{any_below_cong, any_below-from, any_below_to, any_below-none}
 use Rattle.bits.specs.Bits.{bit_of, in_word}
 
 -- the last bit
@@ -72,7 +73,7 @@ bit-mod n k h =
     ap (λ (m : ℕ). eqb m 1) (sym (bit_at_cat_low (n / 2 ^ 64) 64 (n % 2 ^ 64) k h) ∙ ap (λ (m : ℕ). bit_at m k) whole)
 
 -- a number shifted up by e
-bit_times : (a e k : ℕ) → bit_of (a * 2 ^ e) k ≡ (leb e k && bit_of a (k - e))
+pub bit_times : (a e k : ℕ) → bit_of (a * 2 ^ e) k ≡ (leb e k && bit_of a (k - e))
 unfolding bit_of
 bit_times a e k = by-test (leb e k) refl
   where
@@ -121,6 +122,10 @@ pub word-from : (f : ℕ → Bool) (k : ℕ) → k < 64 → f k ≡ true → in_
 unfolding in_word
 word-from f k h e = any_below-from 64 f k h e
 
+pub word_to : (f : ℕ → Bool) → in_word f ≡ true → (k : ℕ) × (k < 64) × (f k ≡ true)
+unfolding in_word
+word_to f e = any_below_to 64 f e
+
 pub word_cong : (f g : ℕ → Bool) → ((k : ℕ) → k < 64 → f k ≡ g k) → in_word f ≡ in_word g
 unfolding in_word
 word_cong f g h = any_below_cong 64 f g h
@@ -162,3 +167,22 @@ lowest_bit zero h = (λ l. absurd (omega (arith, trailing_of_zero 64)), λ n l. 
 lowest_bit (suc w) h =
     let set = bit_at-trailing_zeros w64 (suc w) (omega arith) h in
     (λ l. eq-eqb _ 1 set.1, λ n l. ap (λ (d : ℕ). eqb d 1) (set.2 n l))
+
+-- and its highest bit below its leading zeros
+pub highest_bit :
+    (w : ℕ) → w < 2 ^ 64
+    → (0 < 64 - count_leading_zeros 64 w → bit_of w (64 - count_leading_zeros 64 w - 1) ≡ true)
+    × ((n : ℕ) → 64 - count_leading_zeros 64 w ≤ n → bit_of w n ≡ false)
+unfolding bit_of
+highest_bit w h =
+    let (m, size, below, above) = leading_length 64 w h in
+    let end : 64 - count_leading_zeros 64 w ≡ m = omega arith in
+    rw end (there m below above, λ n l. bit_high w m n below l)
+  where
+    there : (m : ℕ) → w < 2 ^ m → 2 ^ m ≤ 2 * w + 1 → 0 < m → eqb (w / 2 ^ (m - 1) % 2) 1 ≡ true
+    there zero below above l = absurd (omega arith)
+    there (suc m) below above l =
+        let twice = two-pow-succ m in
+        let one : w / 2 ^ (suc m - 1) ≡ 1 =
+        ap (λ (k : ℕ). w / 2 ^ k) (omega arith) ∙ div-eq_of_lt-le (2 ^ m) (omega arith) (omega arith) in
+        eq-eqb _ 1 (omega arith)

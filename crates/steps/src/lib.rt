@@ -1,9 +1,9 @@
-// The numbers that are reached from a set by the steps of another.
+// The numbers that are reached from a set by the steps of another, and those from which it is reached.
 #![tactic(auto)]
 
-ghost use Rattle.std.specs.Prelude.{ℕ, ◌≤◌, ◌<◌, ◌≡◌};
+ghost use Rattle.std.specs.Prelude.{ℕ, ◌-◌, ◌≤◌, ◌<◌, ◌≡◌};
 ghost use Rattle.bits.specs.Bits.{bit_of};
-ghost use Rattle.steps.specs.Stepped.{stepped, covered};
+ghost use Rattle.steps.specs.Stepped.{stepped, stepped_back, covered, Halves, exchanged};
 
 use bits::{below, both, from, lowest};
 
@@ -62,4 +62,36 @@ fn one_by_one(w: u64, by: u64) -> u64
         left = left / 2;
     }
     found
+}
+
+// The numbers from which a number of w is reached by a step of `by`: `steps` from the other end, but where `by` has no end.
+pub fn steps_back(w: u64, by: u64) -> u64
+    ensures { (n : ℕ) → n < 64 → bit_of result n ≡ stepped_back w by n }
+{
+    let first = lowest(by);
+    if by == from(first) {
+        let end = 64 - u64::leading_zeros(w) as usize;
+        return below(end.saturating_sub(first));
+    }
+    reversed(steps(reversed(w), by))
+}
+
+// The numbers of w counted from the other end: halves, quarters and so on change places.
+pub fn reversed(w: u64) -> u64
+    ensures { (n : ℕ) → n < 64 → bit_of result n ≡ bit_of w (63 - n) }
+{
+    let w = exchange(w, 1, 0x5555555555555555);
+    let w = exchange(w, 2, 0x3333333333333333);
+    let w = exchange(w, 4, 0x0f0f0f0f0f0f0f0f);
+    let w = exchange(w, 8, 0x00ff00ff00ff00ff);
+    let w = exchange(w, 16, 0x0000ffff0000ffff);
+    exchange(w, 32, 0x00000000ffffffff)
+}
+
+// The numbers of `low` change places with those `by` above them.
+fn exchange(w: u64, by: usize, low: u64) -> u64
+    requires { (by < 64) × Halves by low }
+    ensures { (n : ℕ) → n < 64 → bit_of result n ≡ bit_of w (exchanged by low n) }
+{
+    ((w >> by) & low) | ((w & low) << by)
 }
