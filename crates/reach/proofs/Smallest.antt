@@ -36,13 +36,13 @@ last_at_some false c f e = let (u, k, q) = any_below_to (suc c) f e in (u, omega
 
 module _ (s : Sheet) (d : ℕ) where
   -- the test of a letter says that, for the columns the letter names
-  letter_fits-from : (c i j x y : ℕ) (a : Letter) → Placed s d (has_top a) (has_bottom a) c i j x y → letter_fits s d c i j x y a ≡ true
+  pub letter_fits-from : (c i j x y : ℕ) (a : Letter) → Placed s d (has_top a) (has_bottom a) c i j x y → letter_fits s d c i j x y a ≡ true
   unfolding letter_fits
   letter_fits-from c i j x y a r =
       last_at-from (has_top a) c _ r.u r.at_top
       (last_at-from (has_bottom a) c _ r.v r.at_bottom (and_from _ _ r.reached (and_from _ _ r.next_top r.next_bottom)))
 
-  letter_fits_to : (c i j x y : ℕ) (a : Letter) → letter_fits s d c i j x y a ≡ true → Placed s d (has_top a) (has_bottom a) c i j x y
+  pub letter_fits_to : (c i j x y : ℕ) (a : Letter) → letter_fits s d c i j x y a ≡ true → Placed s d (has_top a) (has_bottom a) c i j x y
   unfolding letter_fits
   letter_fits_to c i j x y a e =
       let (u, hu, f) = last_at_some (has_top a) c _ e in
@@ -52,7 +52,7 @@ module _ (s : Sheet) (d : ℕ) where
       record { u = u; v = v; at_top = hu; at_bottom = hv; reached = r; next_top = m; next_bottom = o }
 
 -- where the test holds of some letter b, it holds of the smallest, which comes no later than b
-smallest_holds :
+pub smallest_holds :
     (f : Letter → Bool) (b : Letter) → f b ≡ true
     → let a : Letter = smallest_of (f empty) (f top) (f bottom) in (f a ≡ true) × (rank a ≤ rank b)
 smallest_holds f b h = go b h (f empty) (f top) (f bottom) refl refl refl
@@ -71,7 +71,7 @@ smallest_holds f b h = go b h (f empty) (f top) (f bottom) refl refl refl
     go both h false false false p q r = (h, omega arith)
 
 -- the pins of one side without that of column c + 1
-before_more : (h : Bool) (i k : ℕ) → i ≡ more h k → before h i ≡ k
+pub before_more : (h : Bool) (i k : ℕ) → i ≡ more h k → before h i ≡ k
 before_more true i k p = ap pred p
 before_more false i k p = p
 
@@ -93,7 +93,7 @@ none_left i u r h = omega arith
 
 module _ (s : Sheet) (d : ℕ) where
   -- the places that are left when a letter is taken away
-  placed_rest :
+  pub placed_rest :
       (c i j x y : ℕ) (a : Letter) (r : Placed s d (has_top a) (has_bottom a) c i j x y) → Back s d c a i j r.u r.v
       → Placed s d false false c (before (has_top a) i) (before (has_bottom a) j) (last_in (has_top a) c x) (last_in (has_bottom a) c y)
   placed_rest c i j x y a r o =
@@ -109,7 +109,7 @@ module _ (s : Sheet) (d : ℕ) where
       }
 
   -- where the pins have places, some letter may stand in the column furthest right
-  some_letter : (c i j x y : ℕ) → Placed s d false false (suc c) i j x y → (a : Letter) × (letter_fits s d c i j x y a ≡ true)
+  pub some_letter : (c i j x y : ℕ) → Placed s d false false (suc c) i j x y → (a : Letter) × (letter_fits s d c i j x y a ≡ true)
   some_letter c i j x y r =
       let (h, p) = at_column c r.u r.at_top in
       let (g, q) = at_column c r.v r.at_bottom in
