@@ -1,2 +1,3 @@
-pub mod Stands
-pub mod Crossings
+pub mod Weights
+pub mod Steps
+pub mod Loads

@@ -1,84 +1,82 @@
-// The three loads of one cut: how many nets cross a column there that has a top pin only, a bottom pin only, and both.
+// How many nets are cut between the pins at or left of a column and the others, and the loads of a column from the cut right of it.
 #![tactic(auto)]
 
-ghost use Rattle.std.specs.Prelude.{◌≡◌, ◌≤◌, ◌<◌, length};
-ghost use Rattle.channel.specs.Density.{crossing};
-ghost use Rattle.cut.specs.Counts.{stand_of, with_net, loads_at};
+ghost use Rattle.std.specs.Prelude.{◌≡◌, ◌+◌, ◌-◌, ◌≤◌, cond, not, ◌&&◌, eqb, leb, ltb, length};
+ghost use Rattle.kind.specs.Kinds.{kind_of, leaves_left};
+ghost use Rattle.channel.specs.Density.{weight, weight_of, distinct};
+ghost use Rattle.cut.specs.Counts.{ends_here};
 
 use arrays::Loads;
-use places::NetPlaces;
+use kind::Kind;
+use nets::occurs;
+use places::PinPlaces;
 
-// Of one side: how many pins stand at or left of the column, and the net of the last of them; 0 where there is none: an option would be
-// asked in vain, since the loads of such a column are not kept (`load::possible_loads`).
-#[derive(Clone, Copy)]
-pub struct Stand {
-    pub count: u16,
-    pub net: u16,
-}
-
-// A cut: the two sides at one column.
-#[derive(Clone, Copy)]
-pub struct Cut {
-    pub top: Stand,
-    pub bottom: Stand,
-}
-
-// One side at a column with i of its pins at or left of it.
-pub fn stand_at(ns: &[u16], i: usize) -> Stand
-    requires { (i ≤ length ns.now) × (length ns.now ≤ 64) }
-    ensures { result ≡ stand_of ns.now i }
+// Whether a net comes in at the left end of the channel.
+fn comes_in(net: u16) -> bool
+    ensures { result ≡ leaves_left (kind_of net) }
 {
-    let count = i as u16;
-    let net = if i == 0 { 0 } else { ns[i - 1] };
-    Stand { count, net }
+    Kind::from(net).left_start() == 0
 }
 
-// Whether a net that is a straight wire that counts, reaches left of the column, stands in it and reaches right of it, or not, crosses it.
-fn crosses(straight: bool, left: bool, here: bool, right: bool) -> bool
-    ensures { result ≡ crossing straight left here right }
+// The nets that are cut left of all pins: those that come in at the left end, each once.
+pub fn first_cut(nets: &[u16]) -> u8
+    requires { length nets.now ≤ 128 }
+    ensures { result ≡ weight_of (λ n. leaves_left (kind_of n)) (distinct nets.now) }
 {
-    (left | here) & ((here | right) & (straight | (left | right)))
+    let mut count = 0;
+    for (i, net) in nets.iter().enumerate() {
+        if comes_in(*net) && !occurs(*net, &nets[i + 1..]) {
+            count += 1;
+        }
+    }
+    count
 }
 
-// The loads with one net more.
-fn with_net(c: Cut, l: Loads, s: NetPlaces) -> Loads
-    requires { (l.top < 255) × (l.bottom < 255) × (l.both < 255) }
-    ensures { result ≡ with_net c l s }
+// The cut with a pin more, where `across` pins of the other side are at or left of it: it opens its net, or closes it, or neither.
+pub fn next_cut(cut: u8, pin: PinPlaces, across: u8) -> u8
+    requires { (cut ≤ 128) × (cond (leb pin.opens across) 1 0 ≤ cut + cond (ltb across pin.closes) 1 0) }
+    ensures { result + cond (leb pin.opens across) 1 0 ≡ cut + cond (ltb across pin.closes) 1 0 }
 {
-    let net = s.net;
-    let straight = s.straight;
-    let t_first = s.top.first;
-    let t_last = s.top.last;
-    let b_first = s.bottom.first;
-    let b_last = s.bottom.last;
-    let i = c.top.count;
-    let t = c.top.net;
-    let j = c.bottom.count;
-    let b = c.bottom.net;
-    let right = (i < t_last) | (j < b_last);
-    let top = crosses(straight, (t_first < i) | (b_first <= j), t == net, right);
-    let bottom = crosses(straight, (t_first <= i) | (b_first < j), b == net, right);
-    let both = crosses(
-        straight,
-        (t_first < i) | (b_first < j),
-        (t == net) | (b == net),
-        right,
-    );
+    cut + u8::from(across < pin.closes) - u8::from(pin.opens <= across)
+}
+
+// Whether a pin's net counts in the pin's column and not right of it, where `before` pins of the other side are left of the column and
+// `behind` at or left of it.
+fn ends_here(pin: PinPlaces, before: u8, behind: u8) -> bool
+    ensures { result ≡ ends_here pin before behind }
+{
+    (pin.straight | (pin.opens <= before)) & (pin.closes <= behind)
+}
+
+// The load of a column with this pin alone, from the cut right of it.
+pub fn lone_load(cut: u8, pin: PinPlaces, across: u8) -> u8
+    requires { cut ≤ 128 }
+    ensures { result ≡ cut + cond (ends_here pin across across) (weight pin.net) 0 }
+{
+    cut + u8::from(ends_here(pin, across, across))
+}
+
+// The load of a column with both pins, the i-th of the top side and the j-th of the bottom side: their net counts once where it is one.
+fn pair_load(cut: u8, top: PinPlaces, bottom: PinPlaces, i: u8, j: u8) -> u8
+    requires { (cut ≤ 128) × (1 ≤ i) × (1 ≤ j) }
+    ensures { result ≡ cut + (cond (ends_here top (j - 1) j) (weight top.net) 0
+        + cond (not (eqb bottom.net top.net) && ends_here bottom (i - 1) i) (weight bottom.net) 0) }
+{
+    let other = (bottom.net != top.net) & ends_here(bottom, i - 1, i);
+    cut + (u8::from(ends_here(top, j - 1, j)) + u8::from(other))
+}
+
+// The three loads of the columns with the i-th top pin, the j-th bottom pin or both as their last, from the cut right of them.
+pub fn loads_of(cut: u8, top: PinPlaces, bottom: PinPlaces, i: u8, j: u8) -> Loads
+    requires { (cut ≤ 128) × (1 ≤ i) × (1 ≤ j) }
+    ensures top { result.top ≡ cut + cond (ends_here top j j) (weight top.net) 0 }
+    ensures bottom { result.bottom ≡ cut + cond (ends_here bottom i i) (weight bottom.net) 0 }
+    ensures both { result.both ≡ cut + (cond (ends_here top (j - 1) j) (weight top.net) 0
+        + cond (not (eqb bottom.net top.net) && ends_here bottom (i - 1) i) (weight bottom.net) 0) }
+{
     Loads {
-        top: l.top + u8::from(top),
-        bottom: l.bottom + u8::from(bottom),
-        both: l.both + u8::from(both),
+        top: lone_load(cut, top, j),
+        bottom: lone_load(cut, bottom, i),
+        both: pair_load(cut, top, bottom, i, j),
     }
-}
-
-// The loads of one cut.
-pub fn loads_at(places: &[NetPlaces], c: Cut) -> Loads
-    requires { length places.now ≤ 255 }
-    ensures { result ≡ loads_at places.now c }
-{
-    let mut l = Loads::default();
-    for s in places {
-        l = with_net(c, l, *s);
-    }
-    l
 }

@@ -1,2 +1,3 @@
 pub mod LoadOf
 pub mod Table
+pub mod Cuts

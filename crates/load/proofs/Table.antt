@@ -1,55 +1,54 @@
 -- Why the loads of a cut, put in, are those of its cell.
 -- Assumes nothing.
-use Rattle.std.proofs.Common.{ℕ, zero, suc, ◌≤◌, ◌≡◌, refl, sym, ◌∙◌, ap, List, cond, ◌||◌, arith, length, eqb, ne_eqb}
+use Rattle.std.proofs.Common.{ℕ, ◌+◌, ◌≤◌, ◌<◌, ◌≡◌, refl, sym, ◌∙◌, ap, List, Bool, true, false, arith, length, eqb, eqb-true}
+use Rattle.std.proofs.lemmas.Bool.{eqb-false}
 use Rattle.mark.specs.declared.Mark.{Mark}
 use Rattle.arrays.specs.Rules.{pins}
-use Rattle.arrays.specs.Loads.{load_bytes, put_loads}
+use Rattle.arrays.specs.Loads.{load_bytes, load_at, put_loads}
 use Rattle.arrays.proofs.Cuts.{length-put_loads, top-put, bottom-put, both-put, load-put_other}
 use Rattle.arrays.specs.declared.Loads.{Loads}
-use Rattle.load.specs.Cuts.{Written}
-use Rattle.places.specs.declared.NetPlaces.{NetPlaces}
-use Rattle.places.specs.Places.{Listed}
-use Rattle.cut.specs.Counts.{cut_of, loads_at, possible_loads}
-use Rattle.cut.proofs.Crossings.{top-load, bottom-load, both-load}
+use Rattle.load.specs.Cuts.{Cell, CutLoads, Written}
 
--- loads that are equal where the column can be are equal with 0 for the others
-kept : (i x y : ℕ) → (1 ≤ i → x ≡ y) → cond (eqb i 0) 0 x ≡ cond (eqb i 0) 0 y
-kept zero x y h = refl
-kept (suc i) x y h = rw (ne_eqb (suc i) 0 (λ e. omega arith)) (h (omega arith))
-
-kept_both : (i j x y : ℕ) → (1 ≤ i → 1 ≤ j → x ≡ y) → cond (eqb i 0 || eqb j 0) 0 x ≡ cond (eqb i 0 || eqb j 0) 0 y
-kept_both zero j x y h = refl
-kept_both (suc i) j x y h = rw (ne_eqb (suc i) 0 (λ e. omega arith)) (kept j x y (h (omega arith)))
-
--- the loads of a cut, put in
-pub write_cell : (mark : Mark) (tops bottoms : List ℕ) (places : List NetPlaces) → Listed mark tops bottoms places
-    → (i j : ℕ) → i ≤ length tops → j ≤ length bottoms
-    → (old new : List ℕ) (l m : Loads)
+pub write_cell : (mark : Mark) (tops bottoms : List ℕ) (i j : ℕ) → i ≤ pins → j ≤ pins
+    → (old new : List ℕ) (l : Loads) → CutLoads mark tops bottoms i j l
     → length new ≡ load_bytes
-    → l ≡ loads_at places (cut_of tops bottoms i j)
-    → m ≡ possible_loads l i j
-    → new ≡ put_loads old i j m.top m.bottom m.both
+    → new ≡ put_loads old i j l.top l.bottom l.both
     → Written mark tops bottoms old new (λ x y. (x ≡ i) × (y ≡ j))
-write_cell mark tops bottoms places listed i j h k old new l m all e f s =
-    let size : length old ≡ load_bytes = sym (length-put_loads old i j m.top m.bottom m.both) ∙ ap length (sym s) ∙ all in
-    let put : m ≡ possible_loads (loads_at places (cut_of tops bottoms i j)) i j = f ∙ ap (λ (n : Loads). possible_loads n i j) e in
-    let t : i ≤ pins = omega (arith, listed.top) in
-    let b : j ≤ pins = omega (arith, listed.bottom) in
+write_cell mark tops bottoms i j t b old new l is all s =
+    let size : length old ≡ load_bytes = sym (length-put_loads old i j l.top l.bottom l.both) ∙ ap length (sym s) ∙ all in
     rw s (record {
-      size = length-put_loads old i j m.top m.bottom m.both;
+      size = length-put_loads old i j l.top l.bottom l.both;
       cell = λ x y p. rw (p.0, p.1) (record {
-        top =
-            top-put old i j m.top m.bottom m.both b size t
-            ∙ ap (λ (n : Loads). n.top) put
-            ∙ kept i _ _ (top-load mark tops bottoms places listed i j h k);
-        bottom =
-            bottom-put old i j m.top m.bottom m.both b size t
-            ∙ ap (λ (n : Loads). n.bottom) put
-            ∙ kept j _ _ (bottom-load mark tops bottoms places listed i j h k);
-        both =
-            both-put old i j m.top m.bottom m.both b size t
-            ∙ ap (λ (n : Loads). n.both) put
-            ∙ kept_both i j _ _ (both-load mark tops bottoms places listed i j h k);
+        top = top-put old i j l.top l.bottom l.both b size t ∙ is.top;
+        bottom = bottom-put old i j l.top l.bottom l.both b size t ∙ is.bottom;
+        both = both-put old i j l.top l.bottom l.both b size t ∙ is.both;
       });
-      others = λ x y letter g c o. load-put_other old i j m.top m.bottom m.both b x y letter g c (λ p q. o (p, q));
+      others = λ x y letter g c o. load-put_other old i j l.top l.bottom l.both b x y letter g c (λ p q. o (p, q));
     })
+
+-- the cells of the rows up to i, and then those of the next row, put in
+pub rows_more : (mark : Mark) (tops bottoms old mid new : List ℕ) (i : ℕ) → length bottoms ≤ pins
+    → Written mark tops bottoms old mid (λ x y. (x < i + 1) × (y < length bottoms + 1))
+    → Written mark tops bottoms mid new (λ x y. (x ≡ i + 1) × (y < length bottoms + 1))
+    → Written mark tops bottoms old new (λ x y. (x < i + 1 + 1) × (y < length bottoms + 1))
+rows_more mark tops bottoms old mid new i few rows row =
+    record {
+      size = row.size ∙ rows.size;
+      cell = λ x y p. by-row x y p (eqb x (i + 1)) refl;
+      others = λ x y letter g c o.
+          row.others x y letter g c (λ q. o (omega arith, q.1))
+          ∙ rows.others x y letter g c (λ q. o (omega arith, q.1));
+    }
+  where
+    by-row : (x y : ℕ) → (x < i + 1 + 1) × (y < length bottoms + 1) → (b : Bool) → eqb x (i + 1) ≡ b → Cell mark tops bottoms new x y
+    by-row x y p true e = row.cell x y (eqb-true x (i + 1) e, p.1)
+    by-row x y p false e =
+        let apart = eqb-false x (i + 1) e in
+        let cell = rows.cell x y (omega (arith, apart), p.1) in
+        let kept : (letter : ℕ) → letter ≤ 2 → load_at new x y letter ≡ load_at mid x y letter =
+        λ letter c. row.others x y letter (omega arith) c (λ q. apart q.0) in
+        record {
+          top = kept 0 (omega arith) ∙ cell.top;
+          bottom = kept 1 (omega arith) ∙ cell.bottom;
+          both = kept 2 (omega arith) ∙ cell.both;
+        }

@@ -1,90 +1,117 @@
 // The load layer: how many nets cross a column, for every cut of the two sides. A cut (i, j) is a column with i top
-// and j bottom pins at or left of it. Each net is counted once, from its first and last place on each side.
+// and j bottom pins at or left of it. From one cut to the next a pin more changes the nets that are cut by one at most, which two numbers
+// of the pin say.
 #![tactic(auto)]
 
 ghost use Rattle.std.specs.Prelude.{◌≡◌, ℕ, ◌+◌, ◌≤◌, ◌<◌, length, take, drop};
 ghost use Rattle.format.specs.Parts.{terminals_in};
-ghost use Rattle.cut.specs.Counts.{possible_loads};
-ghost use Rattle.load.specs.Cuts.{LoadsRead, Written};
+ghost use Rattle.cut.specs.Counts.{cut};
+ghost use Rattle.load.specs.Cuts.{CutLoads, LoadsRead, Written, Listed};
 ghost use Rattle.nets.specs.Nets.{nets_in};
-ghost use Rattle.places.specs.Places.{AsksPlaces, Listed};
 
 use arrays::{LoadTable, Loads};
 use arrayvec::ArrayVec;
-use cut::{Cut, loads_at, stand_at};
+use cut::{first_cut, loads_of, lone_load, next_cut};
 use mark::Mark;
 use nets::Nets;
-use places::{NetPlaces, list_places};
+use places::{PinPlaces, list_pins};
 
-// The loads of the columns that can be, and 0 for the others: one with a top pin has i ≥ 1, one with a bottom pin j ≥ 1.
-fn possible_loads(l: Loads, i: usize, j: usize) -> Loads
-    ensures { result ≡ possible_loads l i j }
-{
-    Loads {
-        top: if i == 0 { 0 } else { l.top },
-        bottom: if j == 0 { 0 } else { l.bottom },
-        both: if i == 0 || j == 0 { 0 } else { l.both },
-    }
-}
-
-// The mark, the nets of both sides, and where each stands.
+// The pins of the two sides, with their numbers, and the nets that they are of.
 #[derive(Clone, Copy)]
-struct ListedNets<'a> {
+struct Pins<'a> {
     mark: Mark,
     tops: &'a [u16],
     bottoms: &'a [u16],
-    places: &'a [NetPlaces],
-    ghost listed: { Listed mark tops.now bottoms.now places.now },
+    top_pins: &'a [PinPlaces],
+    bottom_pins: &'a [PinPlaces],
+    ghost listed: { Listed mark tops.now bottoms.now top_pins.now bottom_pins.now },
 }
 
-impl ListedNets<'_> {
+impl Pins<'_> {
     // Puts the loads of the cut (i, j) into the table.
-    fn write_cell(self, i: usize, j: usize, loads: &mut LoadTable)
-        requires { (i ≤ length self.tops.now) × (j ≤ length self.bottoms.now) }
+    fn write_cell(self, i: usize, j: usize, l: Loads, loads: &mut LoadTable)
+        requires { let s = self in
+            (i ≤ length s.tops.now) × (j ≤ length s.bottoms.now) × CutLoads s.mark s.tops.now s.bottoms.now i j l }
         ensures { let s = self.entry in
             Written s.mark s.tops.now s.bottoms.now loads.old.bytes loads.new.bytes (λ (x y : ℕ). (x ≡ i) × (y ≡ j)) }
     {
-        let top = stand_at(self.tops, i);
-        let bottom = stand_at(self.bottoms, j);
-        let l = possible_loads(loads_at(self.places, Cut { top, bottom }), i, j);
         loads.put(i, j, l);
     }
 
-    // Puts the loads of all cuts with i top pins into the table.
-    fn write_row(self, i: usize, loads: &mut LoadTable)
-        requires { i ≤ length self.tops.now }
+    // Puts the loads of all cuts with no top pin into the table, from the cut left of all pins.
+    fn write_first(self, first: u8, loads: &mut LoadTable)
+        requires { first ≡ cut self.tops.now self.bottoms.now 0 0 }
         ensures { let s = self.entry in
             Written s.mark s.tops.now s.bottoms.now loads.old.bytes loads.new.bytes
-            (λ (x y : ℕ). (x ≡ i) × (y < length s.bottoms.now + 1)) }
+            (λ (x y : ℕ). (x ≡ 0) × (y < length s.bottoms.now + 1)) }
     {
-        for j in 0..=self.bottoms.len() {
-            self.write_cell(i, j, loads);
+        self.write_cell(0, 0, Loads::default(), loads);
+        let mut cut = first;
+        for (j, pin) in self.bottom_pins.iter().enumerate() {
+            cut = next_cut(cut, *pin, 0);
+            let bottom = lone_load(cut, *pin, 0);
+            let l = Loads {
+                top: 0,
+                bottom,
+                both: 0,
+            };
+            self.write_cell(0, j + 1, l, loads);
         }
     }
 
-    // Puts the loads of all cuts into the table.
-    fn write_table(self, loads: &mut LoadTable)
+    // Puts the loads of all cuts with the pin at index i as their last top pin into the table, from the cut with no bottom pin.
+    fn write_row(self, i: usize, first: u8, loads: &mut LoadTable)
+        requires { let s = self in (i < length s.tops.now) × (first ≡ cut s.tops.now s.bottoms.now (i + 1) 0) }
+        ensures { let s = self.entry in
+            Written s.mark s.tops.now s.bottoms.now loads.old.bytes loads.new.bytes
+            (λ (x y : ℕ). (x ≡ i + 1) × (y < length s.bottoms.now + 1)) }
+    {
+        let top = self.top_pins[i];
+        let l = Loads {
+            top: lone_load(first, top, 0),
+            bottom: 0,
+            both: 0,
+        };
+        self.write_cell(i + 1, 0, l, loads);
+        let mut cut = first;
+        for (j, pin) in self.bottom_pins.iter().enumerate() {
+            cut = next_cut(cut, *pin, i as u8 + 1);
+            let l = loads_of(cut, top, *pin, i as u8 + 1, j as u8 + 1);
+            self.write_cell(i + 1, j + 1, l, loads);
+        }
+    }
+
+    // Puts the loads of all cuts into the table, from the cut left of all pins.
+    fn write_table(self, first: u8, loads: &mut LoadTable)
+        requires { first ≡ cut self.tops.now self.bottoms.now 0 0 }
         ensures { let s = self.entry in LoadsRead s.mark s.tops.now s.bottoms.now loads.old.bytes loads.new.bytes }
     {
-        for i in 0..=self.tops.len() {
-            self.write_row(i, loads);
+        self.write_first(first, loads);
+        let mut cut = first;
+        for (i, pin) in self.top_pins.iter().enumerate() {
+            cut = next_cut(cut, *pin, 0);
+            self.write_row(i, cut, loads);
         }
     }
 }
 
 // The table of the nets of two sides, of which the first p are the top's.
 fn tabulate(mark: Mark, nets: &[u16], p: usize, loads: &mut LoadTable)
-    requires { AsksPlaces nets.now p }
+    requires { (p ≤ 64) × (p ≤ length nets.now) × (length nets.now ≤ p + 64) }
     ensures { LoadsRead mark (take p nets.now) (drop p nets.now) loads.old.bytes loads.new.bytes }
 {
-    let places = list_places(mark, nets, p);
-    let listed = ListedNets {
+    let tops = &nets[..p];
+    let bottoms = &nets[p..];
+    let top_pins = list_pins(mark, nets, tops, bottoms);
+    let bottom_pins = list_pins(mark, nets, bottoms, tops);
+    let pins = Pins {
         mark,
-        tops: &nets[..p],
-        bottoms: &nets[p..],
-        places: &places,
+        tops,
+        bottoms,
+        top_pins: &top_pins,
+        bottom_pins: &bottom_pins,
     };
-    listed.write_table(loads);
+    pins.write_table(first_cut(nets), loads);
 }
 
 // The loads of all cuts of two sections of a sheet with this mark, once per search.

@@ -1,3 +1,2 @@
-pub mod Columns
 pub mod Sides
-pub mod Listing
+pub mod Numbers

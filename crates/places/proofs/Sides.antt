@@ -1,35 +1,26 @@
 -- The first and last place of a net on one side say which stretches of the side it stands in, or reaches by leaving.
 -- Assumes nothing.
-use Rattle.std.proofs.Common.{ℕ, zero, suc, ◌-◌, ◌<◌, min, max, ◌≡◌, refl, sym, List, [], ◌∷◌, Bool, true, false, ◌&&◌, ◌||◌, arith, take, drop, leb, ltb, eqb, leb-true, leb-false, le-leb, ltb-true, ltb-false, lt-ltb, le-ltb}
-use Rattle.std.proofs.Math.Bool.{or_assoc, or-false, and-true, and-false}
+use Rattle.std.proofs.Common.{ℕ, zero, suc, ◌+◌, ◌-◌, ◌<◌, ◌≤◌, min, max, ◌≡◌, refl, List, ◌∷◌, Bool, true, false, cond, ◌&&◌, ◌||◌, arith, length, get_or, take, drop, leb, ltb, eqb, le-leb, lt-ltb, le-ltb, drop-cons, add-one}
+use Rattle.std.proofs.Math.ListN.{drop_of_length-le}
 use Rattle.std.proofs.Math.Nat.{sub-zero}
 use Rattle.std.proofs.Math.Seq.{take-nil, drop-nil}
+use Rattle.std.proofs.Math.Bool.{or_assoc, or-false, and-true, and-false}
 use Rattle.std.proofs.lemmas.Bool.{lt-leb}
-use Rattle.kind.specs.Kinds.{kind_of, leaves_left, leaves_right}
+use Rattle.std.proofs.lemmas.Bool.Decides.{nat_tests}
+use Rattle.kind.specs.Kinds.{kind_of, leaves_left, leaves_right, left_start, right_start}
 use Rattle.kind.proofs.Starts.{left_start_lem, right_start_lem}
-use Rattle.channel.specs.Cut.{has, right_of}
-use Rattle.places.specs.declared.Ends.{Ends}
-use Rattle.places.specs.Places.{reached, ends_from, start_of, ends_of}
+use Rattle.channel.specs.Cut.{has}
+use Rattle.places.specs.Places.{EndsOf}
 
--- a pin more at place k: the first place is at or left of c if the old one was, or if the pin is the net's and stands there
-first_more : (b : Bool) (e : Ends) (k c : ℕ) → leb (reached b e k).first c ≡ (leb e.first c || (b && leb k c))
-first_more true e k c = go (leb e.first c) refl (leb k c) refl
-  where
-    go : (x : Bool) → leb e.first c ≡ x → (y : Bool) → leb k c ≡ y → leb (min e.first k) c ≡ (x || y)
-    go true h y g = le-leb _ c (omega (arith, leb-true e.first c h))
-    go false h true g = le-leb _ c (omega (arith, leb-true k c g))
-    go false h false g = lt-leb _ c (omega (arith, leb-false e.first c h, leb-false k c g))
-first_more false e k c = sym (or-false (leb e.first c))
+-- a pin more at place k, if it is the net's: the first place is at or left of c if the old one was, or if the pin stands there
+first_more : (b : Bool) (f k c : ℕ) → c < 255 → leb (min f (cond b k 255)) c ≡ (leb f c || (b && leb k c))
+first_more true f k c h = grind (arith, nat_tests)
+first_more false f k c h = grind (arith, nat_tests)
 
 -- likewise the last place and right of c
-last_more : (b : Bool) (e : Ends) (k c : ℕ) → ltb c (reached b e k).last ≡ (ltb c e.last || (b && ltb c k))
-last_more true e k c = go (ltb c e.last) refl (ltb c k) refl
-  where
-    go : (x : Bool) → ltb c e.last ≡ x → (y : Bool) → ltb c k ≡ y → ltb c (max e.last k) ≡ (x || y)
-    go true h y g = lt-ltb c _ (omega (arith, ltb-true c e.last h))
-    go false h true g = lt-ltb c _ (omega (arith, ltb-true c k g))
-    go false h false g = le-ltb c _ (omega (arith, ltb-false c e.last h, ltb-false c k g))
-last_more false e k c = sym (or-false (ltb c e.last))
+last_more : (b : Bool) (e k c : ℕ) → ltb c (max e (cond b k 0)) ≡ (ltb c e || (b && ltb c k))
+last_more true e k c = grind (arith, nat_tests)
+last_more false e k c = grind (arith, nat_tests)
 
 -- over the pins ns behind place k: at or left of c stand the first c - k of them, right of c the others
 has-take : (n m : ℕ) (ns : List ℕ) (k c : ℕ) → has n (take (c - k) (m ∷ ns)) ≡ ((eqb m n && leb (suc k) c) || has n (take (c - suc k) ns))
@@ -46,21 +37,36 @@ has-drop n m ns k c = go (c - k) refl
     go zero e = let z : c - suc k ≡ 0 = omega arith in rw (lt-ltb c (suc k) (omega arith), z, and-true)
     go (suc d) e = let z : c - suc k ≡ d = omega arith in rw (le-ltb c (suc k) (omega arith), z, and-false)
 
-first-from : (e : Ends) (n k : ℕ) (ns : List ℕ) (c : ℕ) → leb (ends_from e n k ns).first c ≡ (leb e.first c || has n (take (c - k) ns))
-first-from e n k [] c = rw (take-nil (c - k), or-false)
-first-from e n k (m ∷ ns) c = rw (first-from (reached (eqb m n) e (suc k)) n (suc k) ns c, first_more, has-take, or_assoc)
+-- the ends of net n over the first k pins of a side, where what is left of the side is still to be seen
+pub record Seen (n : ℕ) (side : List ℕ) (k first last : ℕ) : Type 0 where
+  pub left : (c : ℕ) → c < 255 → (leb first c || has n (take (c - k) (drop k side))) ≡ (leaves_left (kind_of n) || has n (take c side))
+  pub right : (c : ℕ) → c < 255 → (ltb c last || has n (drop (c - k) (drop k side))) ≡ (leaves_right (kind_of n) || has n (drop c side))
 
-last-from : (e : Ends) (n k : ℕ) (ns : List ℕ) (c : ℕ) → ltb c (ends_from e n k ns).last ≡ (ltb c e.last || has n (drop (c - k) ns))
-last-from e n k [] c = rw (drop-nil (c - k), or-false)
-last-from e n k (m ∷ ns) c = rw (last-from (reached (eqb m n) e (suc k)) n (suc k) ns c, last_more, has-drop, or_assoc)
+module _ (n : ℕ) (side : List ℕ) where
+  pub seen_none : Seen n side 0 (left_start (kind_of n)) (right_start (kind_of n))
+  seen_none = record {
+    left = λ c h. rw (left_start_lem (kind_of n) c h, sub-zero);
+    right = λ c h. rw (right_start_lem (kind_of n) c h, sub-zero);
+  }
 
--- so a net leaves at the left or has a pin among the first c of one side exactly if its first place is at most c, and leaves at the right
--- or has a pin behind them exactly if its last is above c
-module _ (n : ℕ) (ns : List ℕ) (c : ℕ) (h : c < 255) where
-  pub first-left : leb (ends_of ns n).first c ≡ (leaves_left (kind_of n) || has n (take c ns))
-  unfolding ends_of
-  first-left = rw (first-from (start_of n) n 0 ns c, sub-zero, left_start_lem (kind_of n) c h)
+  -- with a pin more of the net, or of another one
+  module _ (k first last : ℕ) (b : Bool) (seen : Seen n side k first last) where
+    pub seen_more : k < length side → eqb (get_or side k 0) n ≡ b
+        → Seen n side (k + 1) (min first (cond b (k + 1) 255)) (max last (cond b (k + 1) 0))
+    seen_more h e =
+        let here = get_or side k 0 in
+        let behind = drop (suc k) side in
+        record {
+          left = λ c l.
+              rw (first_more b first (k + 1) c l, or_assoc, add-one, ← e, ← has-take n here behind k c, ← drop-cons side k 0 h)
+              (seen.left c l);
+          right = λ c l.
+              rw (last_more b last (k + 1) c, or_assoc, add-one, ← e, ← has-drop n here behind k c, ← drop-cons side k 0 h)
+              (seen.right c l);
+        }
 
-  pub last_right : ltb c (ends_of ns n).last ≡ (leaves_right (kind_of n) || has n (right_of c ns))
-  unfolding ends_of
-  last_right = rw (last-from (start_of n) n 0 ns c, sub-zero, right_start_lem (kind_of n) c h)
+    pub seen_all : length side ≤ k → EndsOf n side first last
+    seen_all h = record {
+      left = λ c l. rw (drop_of_length-le side h, take-nil, or-false) at (seen.left c l);
+      right = λ c l. rw (drop_of_length-le side h, drop-nil, or-false) at (seen.right c l);
+    }

@@ -1,80 +1,80 @@
-// The list of the nets of both sides, each once, with its first and last place on each side.
+// Where the net of a pin has its other pins: what a pin changes in the number of nets that are cut, by two numbers.
 #![tactic(auto)]
 
-ghost use Rattle.std.specs.Prelude.{◌≡◌, take, drop};
-ghost use Rattle.channel.specs.Density.{straight, distinct};
-ghost use Rattle.places.specs.Places.{Placed, ends_of, AsksPlaces, places_list};
+ghost use Rattle.std.specs.Prelude.{◌≡◌, ◌≤◌, ◌<◌, length};
+ghost use Rattle.channel.specs.Density.{straight};
+ghost use Rattle.places.specs.Places.{EndsOf, Numbers, ListedPins};
 
 use arrayvec::ArrayVec;
-use ends::PinList;
+use kind::Kind;
 use mark::Mark;
-use nets::{Distinct, is_straight};
+use nets::{is_straight, occurs};
 
 // The first and last place of a net on one side, from 1. A net that leaves at the left has first 0, one that leaves at the right last 255;
 // any other has 255 and 0 where it has no pin on the side.
-// They are two bytes wide, as a net is: over the single bytes of `ends`' columns the count of a cut's loads takes 1.2 to 1.9 of the time (in
-// plain Rust).
-#[derive(Clone, Copy, Default)]
+#[derive(Clone, Copy)]
 pub struct Ends {
-    pub first: u16,
-    pub last: u16,
+    pub first: u8,
+    pub last: u8,
 }
 
-// A net with its ends on the two sides, and whether it is a straight wire that counts where its two pins share a column.
+// A pin's net, and where else that net is. With n pins of the other side at or left of the pin, it has come before the pin if opens ≤ n,
+// and goes on behind it if n < closes. Whether it is a straight wire that counts where its two pins share a column.
 #[derive(Clone, Copy, Default)]
-pub struct NetPlaces {
+pub struct PinPlaces {
     pub net: u16,
+    pub opens: u8,
+    pub closes: u8,
     pub straight: bool,
-    pub top: Ends,
-    pub bottom: Ends,
 }
 
-// The ends of a net on one side, of which each pin has its place for its column.
-fn ends_of(side: PinList, net: u16) -> Ends
-    requires { Placed side.columns.now }
-    ensures { result ≡ ends_of side.entry.nets.now net }
+// The ends of a net on one side. The loop has no branch, so that the compiler can take many pins at a time.
+fn ends_of(side: &[u16], net: u16) -> Ends
+    requires { length side.now ≤ 64 }
+    ensures { EndsOf net side.now result.first result.last }
 {
-    let ends = side.ends_of(net);
-    Ends {
-        first: u16::from(ends.left),
-        last: u16::from(ends.right),
+    let kind = Kind::from(net);
+    let mut first = kind.left_start();
+    let mut last = kind.right_start();
+    for (i, other) in side.iter().enumerate() {
+        let place = i as u8 + 1;
+        // a pin of another net moves neither end
+        let (low, high) = if *other == net {
+            (place, place)
+        } else {
+            (255, 0)
+        };
+        first = first.min(low);
+        last = last.max(high);
+    }
+    Ends { first, last }
+}
+
+// The numbers of the pin at index i of its own side, on a sheet with this mark and these nets of both sides.
+fn pin_at(mark: Mark, nets: &[u16], own: &[u16], other: &[u16], i: usize) -> PinPlaces
+    requires { (length nets.now ≤ 128) × (length other.now ≤ 64) × (i < length own.now) }
+    ensures { Numbers (straight mark nets.now) own.now other.now i result }
+{
+    let net = own[i];
+    let ends = ends_of(other, net);
+    let before = occurs(net, &own[..i]);
+    let behind = occurs(net, &own[i + 1..]);
+    PinPlaces {
+        net,
+        opens: if before { 0 } else { ends.first },
+        closes: if behind { 255 } else { ends.last },
+        straight: is_straight(mark, net, nets),
     }
 }
 
-// The places of a side, from 1.
-fn number(columns: &mut [u8; 64])
-    ensures { Placed columns.new }
+// The numbers of the pins of a side.
+pub fn list_pins(mark: Mark, nets: &[u16], own: &[u16], other: &[u16]) -> ArrayVec<PinPlaces, 64>
+    requires { (length nets.now ≤ 128) × (length own.now ≤ 64) × (length other.now ≤ 64) }
+    ensures { ListedPins (straight mark nets.now) own.now other.now result.items }
 {
-    for (i, column) in columns.iter_mut().enumerate() {
-        *column = i as u8 + 1;
+    let mut pins = ArrayVec::new();
+    for i in 0..own.len() {
+        pins.push(pin_at(mark, nets, own, other, i));
     }
-}
-
-// The places of all nets, each once, on a sheet with this mark.
-pub fn list_places(mark: Mark, nets: &[u16], p: usize) -> ArrayVec<NetPlaces, 128>
-    requires { AsksPlaces nets.now p }
-    ensures { result.items ≡ places_list (straight mark nets.now) (take p nets.now) (drop p nets.now) (distinct nets.now) }
-{
-    let mut columns = [0; 64];
-    number(&mut columns);
-    let tops = PinList {
-        mark,
-        nets: &nets[..p],
-        columns: &columns[..p],
-    };
-    let bottoms = PinList {
-        mark,
-        nets: &nets[p..],
-        columns: &columns[..nets.len() - p],
-    };
-    let mut places = ArrayVec::new();
-    for net in (Distinct { left: nets }) {
-        places.push(NetPlaces {
-            net,
-            straight: is_straight(mark, net, nets),
-            top: ends_of(tops, net),
-            bottom: ends_of(bottoms, net),
-        });
-    }
-    places
+    pins
 }
