@@ -1,21 +1,17 @@
 // One word of the table, from the planes before it. `table` has the table.
 #![tactic(auto)]
 
-ghost use Rattle.std.specs.Prelude.{ℕ, suc, ◌+◌, ◌-◌, ◌≤◌, ◌<◌, ◌≡◌, ◌&&◌, leb};
-ghost use Rattle.channel.specs.Below.{any_below};
-ghost use Rattle.arrays.specs.Rules.{range_at, allowed_at};
+ghost use Rattle.std.specs.Prelude.{ℕ, ◌+◌, ◌-◌, ◌≤◌, ◌<◌, ◌≡◌, true, ◌&&◌, cond, leb, ltb, eqb};
+ghost use Rattle.arrays.specs.Rules.{range_at, allowed_at, side_number};
 ghost use Rattle.bits.specs.Bits.{bit_of};
 ghost use Rattle.steps.specs.Stepped.{stepped};
-ghost use Rattle.rows.specs.Held.{held};
-ghost use Rattle.entry.specs.Entry.{start_part, top_part, bottom_part, both_part, entry};
-ghost use Rattle.entry.specs.Asks.{AsksEntry};
+ghost use Rattle.entry.specs.Entry.{start_part, top_part, bottom_part, both_part, cell};
+ghost use Rattle.entry.specs.Columns.{Tops, Top, Bottom, Pair, Rows, rows_of, Turned, Holds, United};
 
 use arrays::{LoadTable, RuleTable};
 use bits::{below, bit, both, either, from, single};
-use cells::read_word;
 use channel::Side;
-use rows::rows;
-use steps::steps;
+use steps::{reversed, steps};
 
 // The table's measures: the rows of a plane, the planes for one i, and the cells of a plane and of those
 // planes.
@@ -27,15 +23,6 @@ pub struct Grid {
     pub stride: usize,
 }
 
-// One row of one plane, whose cells start at `at`.
-#[derive(Clone, Copy)]
-pub struct Place {
-    pub i: usize,
-    pub j: usize,
-    pub x: usize,
-    pub at: usize,
-}
-
 // What the table is filled by: the rules and the loads of the sheet, the table's measures, and the bound.
 #[derive(Clone, Copy)]
 pub struct Filling<'a> {
@@ -45,133 +32,221 @@ pub struct Filling<'a> {
     pub bound: u8,
 }
 
-// A row that is to be filled, from the cells that are.
+// What all rows of plane (i, j) go by: the rows in which anything can stand; the columns in which the last pins may stand, none where the
+// load of their column is above the bound; and the steps of the bottom one, and these counted from the other end. In a column with both,
+// `pair` is for the top pin and `partner` for the bottom one.
 #[derive(Clone, Copy)]
-pub struct Row<'a> {
+pub struct Columns<'a> {
     pub filling: Filling<'a>,
-    pub work: &'a [u16],
-    pub place: Place,
-    ghost lies: { AsksEntry work.now filling.grid place },
+    pub i: usize,
+    pub j: usize,
+    rows: u64,
+    pub top: u64,
+    bottom: u64,
+    pub pair: u64,
+    partner: u64,
+    by: u64,
+    back: u64,
+    ghost counts: { (i ≤ 64) × (j ≤ 64) },
+    ghost rows_are: { Rows filling.rules.now.words filling.loads.now.bytes filling.bound i j rows },
+    pub ghost tops: { Top filling.rules.now.words filling.loads.now.bytes filling.bound i j top },
+    ghost bottoms: { Bottom filling.rules.now.words filling.loads.now.bytes filling.bound i j bottom },
+    pub ghost pairs: { Pair filling.rules.now.words filling.loads.now.bytes filling.bound i j pair partner },
+    ghost steps: { 0 < j → by ≡ range_at filling.rules.now.words 1 j },
+    ghost turned: { Turned by back },
 }
 
-// No pin is placed.
-#[tactic(auto, using(bits::proofs::Laws::bit_one, bits::proofs::Laws::bit_zero))]
-fn start(i: usize, j: usize, x: usize) -> u64
-    ensures { (y : ℕ) → y < 64 → bit_of result y ≡ start_part i j x y }
-{
-    if i == 0 && j == 0 && x == 0 { 1 } else { 0 }
-}
-
-impl Row<'_> {
-    // Whether the last top pin may stand in the column, at this load.
-    fn allows_top(self, load: u8) -> bool
-        requires { 1 ≤ self.place.i }
-        ensures { let r = self.entry in let f = r.filling in let p = r.place in
-            result ≡ (leb load f.bound && bit_of (allowed_at f.rules.now.words 0 p.i) p.x) }
+impl<'a> Filling<'a> {
+    // The columns in which the last of i top pins may stand: with none, the row of no pin.
+    fn rows_of(self, i: usize) -> u64
+        requires { i ≤ 64 }
+        ensures { let f = self.entry in result ≡ rows_of f.rules.now.words i }
     {
-        let Place { i, x, .. } = self.place;
-        let f = self.filling;
-        load <= f.bound && bit(f.rules.allowed(Side::Top, i), x)
+        if i == 0 {
+            1
+        } else {
+            self.rules.allowed(Side::Top, i)
+        }
     }
 
-    // What the last top pin's steps reach from the plane that lies so many cells before.
-    fn top_steps(self, cells: usize) -> u64
-        requires { (1 ≤ self.place.i) × (cells ≤ self.place.at) }
-        ensures { let r = self.entry in let f = r.filling in let p = r.place in
-            (y : ℕ) → bit_of result y ≡ any_below (suc p.x)
-            (λ (n : ℕ). bit_of (range_at f.rules.now.words 0 p.i) (p.x - n) && held r.work.now (p.at - cells) n y) }
-    {
-        let Place { i, x, at, .. } = self.place;
-        let range = self.filling.rules.range(Side::Top, i);
-        rows(self.work, at - cells, x, range)
-    }
-
-    // What the steps of the last bottom pin reach from a row, of the columns in which it may stand.
-    fn bottom_steps(self, row: u64) -> u64
-        requires { 1 ≤ self.place.j }
-        ensures { let r = self.entry in let rules = r.filling.rules.now.words in let j = r.place.j in
-            (y : ℕ) → y < 64
-            → bit_of result y ≡ (bit_of (allowed_at rules 1 j) y && stepped row (range_at rules 1 j) y) }
-    {
-        let rules = self.filling.rules;
-        let j = self.place.j;
-        both(
-            rules.allowed(Side::Bottom, j),
-            steps(row, rules.range(Side::Bottom, j)),
-        )
-    }
-
-    // The last column holds a top pin alone.
+    // The columns of the last of n pins of a side.
     #[tactic(auto, using(bits::proofs::Laws::bit_zero))]
-    fn top(self) -> u64
-        ensures { let r = self.entry in let f = r.filling in let p = r.place in
-            (y : ℕ) → y < 64
-            → bit_of result y ≡ top_part f.rules.now.words f.loads.now.bytes f.bound p.i p.j
-            (held r.work.now (p.at - f.grid.stride)) p.x y }
+    fn last(self, side: Side, n: usize) -> u64
+        requires { n ≤ 64 }
+        ensures { let f = self.entry in
+            (y : ℕ) → bit_of result y ≡ (ltb 0 n && bit_of (allowed_at f.rules.now.words (side_number side) n) y) }
     {
-        let Place { i, j, x, .. } = self.place;
-        let f = self.filling;
-        if i == 0 || x + i <= j || !self.allows_top(f.loads.at(i, j).top) {
-            return 0;
+        if n == 0 {
+            0
+        } else {
+            self.rules.allowed(side, n)
         }
-        both(self.top_steps(f.grid.stride), below(x + i - j))
     }
 
-    // A bottom pin alone.
-    #[tactic(auto, using(bits::proofs::Laws::bit_zero), unfolding(steps::specs::Stepped::stepped))]
-    fn bottom(self) -> u64
-        ensures { let r = self.entry in let f = r.filling in let p = r.place in
-            (y : ℕ) → y < 64
-            → bit_of result y ≡ bottom_part f.rules.now.words f.loads.now.bytes f.bound p.i p.j
-            (held r.work.now (p.at - f.grid.size)) p.x y }
+    // None of them, where the load is above the bound.
+    #[tactic(auto, using(bits::proofs::Laws::bit_zero))]
+    fn within(self, load: u8, columns: u64) -> u64
+        ensures { let f = self.entry in (y : ℕ) → bit_of result y ≡ (leb load f.bound && bit_of columns y) }
     {
-        let Place { i, j, x, at } = self.place;
-        let f = self.filling;
-        if j == 0 || f.bound < f.loads.at(i, j).bottom {
+        if load <= self.bound { columns } else { 0 }
+    }
+
+    // The rows in which anything can stand: none, where no letter has a column.
+    #[tactic(auto, using(crate::proofs::Table::no_letter, crate::proofs::Table::no_row))]
+    fn rows(self, i: usize, j: usize, top: u64, bottom: u64, pair: u64) -> u64
+        requires { let f = self in
+            (i ≤ 64) × (j ≤ 64) × Top f.rules.now.words f.loads.now.bytes f.bound i j top
+            × Bottom f.rules.now.words f.loads.now.bytes f.bound i j bottom
+            × Tops f.rules.now.words f.loads.now.bytes f.bound i j 2 pair }
+        ensures { let f = self.entry in Rows f.rules.now.words f.loads.now.bytes f.bound i j result }
+    {
+        if i + j != 0 && top == 0 && bottom == 0 && pair == 0 {
             return 0;
         }
-        let row = read_word(self.work, at - f.grid.size + 4 * x);
-        let found = self.bottom_steps(row);
+        self.rows_of(i)
+    }
+
+    // The columns of plane (i, j).
+    pub fn columns(self, i: usize, j: usize) -> Columns<'a>
+        requires { (i ≤ 64) × (j ≤ 64) }
+        ensures { let f = self.entry in (result.filling ≡ f) × (result.i ≡ i) × (result.j ≡ j) }
+    {
+        let loads = self.loads.at(i, j);
+        let tops = self.last(Side::Top, i);
+        let bottoms = self.last(Side::Bottom, j);
+        let top = self.within(loads.top, tops);
+        let bottom = self.within(loads.bottom, bottoms);
+        let pair = self.within(loads.both, tops);
+        let by = if j == 0 {
+            0
+        } else {
+            self.rules.range(Side::Bottom, j)
+        };
+        Columns {
+            filling: self,
+            i,
+            j,
+            rows: self.rows(i, j, top, bottom, pair),
+            top,
+            bottom,
+            pair,
+            partner: bottoms,
+            by,
+            back: reversed(by),
+        }
+    }
+}
+
+// Whether y is reached from a number of w by a step, of steps that are counted from the other end: the numbers from which it is reached
+// are these steps moved down.
+fn meets(w: u64, back: u64, y: usize) -> bool
+    requires { y < 64 }
+    ensures { (by : ℕ) → Turned by back → result ≡ stepped w by y }
+{
+    if both(w, back >> (63 - y)) == 0 {
+        return false;
+    }
+    true
+}
+
+impl Columns<'_> {
+    // No pin is placed.
+    #[tactic(auto, using(bits::proofs::Laws::bit_one, bits::proofs::Laws::bit_zero))]
+    fn start(self, x: usize) -> u64
+        ensures { let s = self.entry in (y : ℕ) → y < 64 → bit_of result y ≡ start_part s.i s.j x y }
+    {
+        if self.i == 0 && self.j == 0 && x == 0 {
+            1
+        } else {
+            0
+        }
+    }
+
+    // The last column holds a top pin alone, whose steps reach `above` from the plane of one top pin less.
+    #[tactic(auto, using(bits::proofs::Laws::bit_zero))]
+    fn top(self, x: usize, above: u64) -> u64
+        requires { let s = self in let f = s.filling in
+            (x < 64) × (bit_of s.top x ≡ true → United f.rules.now.words f.loads.now.bytes f.bound s.i s.j x above) }
+        ensures { let s = self.entry in let f = s.filling in
+            (y : ℕ) → y < 64
+            → bit_of result y ≡ top_part f.rules.now.words f.loads.now.bytes f.bound s.i s.j
+            (cell f.rules.now.words f.loads.now.bytes f.bound (s.i - 1) s.j) x y }
+    {
+        let Columns { i, j, .. } = self;
+        if x + i <= j || !bit(self.top, x) {
+            return 0;
+        }
+        both(above, below(x + i - j))
+    }
+
+    // A bottom pin alone, from the same row of the plane of one bottom pin less.
+    #[tactic(auto, using(bits::proofs::Laws::bit_zero))]
+    fn bottom(self, x: usize, before: u64) -> u64
+        requires { let s = self in let f = s.filling in
+            (x < 64) × (0 < s.j → Holds x (cell f.rules.now.words f.loads.now.bytes f.bound s.i (s.j - 1)) before) }
+        ensures { let s = self.entry in let f = s.filling in
+            (y : ℕ) → y < 64
+            → bit_of result y ≡ bottom_part f.rules.now.words f.loads.now.bytes f.bound s.i s.j
+            (cell f.rules.now.words f.loads.now.bytes f.bound s.i (s.j - 1)) x y }
+    {
+        let Columns { i, j, .. } = self;
+        if self.bottom == 0 {
+            return 0;
+        }
+        if before == 0 {
+            return 0;
+        }
+        let found = both(self.bottom, steps(before, self.by));
         if x + i < j {
             return found;
         }
         both(found, from(x + i - j + 1))
     }
 
-    // Both.
+    // Both, whose top pin's steps reach `diagonal` from the plane of one of each less.
     #[tactic(auto, using(bits::proofs::Laws::bit_zero))]
-    fn pair(self) -> u64
-        ensures { let r = self.entry in let f = r.filling in let p = r.place in
+    fn pair(self, x: usize, diagonal: u64) -> u64
+        requires { let s = self in let f = s.filling in
+            (x < 64)
+            × (bit_of s.pair x ≡ true → 0 < s.j
+            → United f.rules.now.words f.loads.now.bytes f.bound s.i (s.j - 1) x diagonal) }
+        ensures { let s = self.entry in let f = s.filling in
             (y : ℕ) → y < 64
-            → bit_of result y ≡ both_part f.rules.now.words f.loads.now.bytes f.bound p.i p.j
-            (held r.work.now (p.at - (f.grid.stride + f.grid.size))) p.x y }
+            → bit_of result y ≡ both_part f.rules.now.words f.loads.now.bytes f.bound s.i s.j
+            (cell f.rules.now.words f.loads.now.bytes f.bound (s.i - 1) (s.j - 1)) x y }
     {
-        let Place { i, j, x, .. } = self.place;
-        let f = self.filling;
-        if i == 0 || j == 0 || x + i < j || 64 <= x + i - j {
+        let Columns { i, j, .. } = self;
+        if x + i < j || 64 <= x + i - j {
             return 0;
         }
-        if !self.allows_top(f.loads.at(i, j).both) {
+        let y = x + i - j;
+        if !bit(self.pair, x) || !bit(self.partner, y) {
             return 0;
         }
-        let found = self.top_steps(f.grid.stride + f.grid.size);
-        both(single(x + i - j), self.bottom_steps(found))
+        if !meets(diagonal, self.back, y) {
+            return 0;
+        }
+        single(y)
     }
 
-    // The row's word.
-    #[tactic(auto, unfolding(crate::specs::Entry::entry))]
-    pub fn word(self) -> u64
-        ensures { let r = self.entry in let f = r.filling in let p = r.place in
-            (y : ℕ) → y < 64
-            → bit_of result y ≡ entry f.rules.now.words f.loads.now.bytes f.bound p.i p.j
-            (held r.work.now (p.at - f.grid.stride)) (held r.work.now (p.at - f.grid.size))
-            (held r.work.now (p.at - (f.grid.stride + f.grid.size))) p.x y }
+    // The word of row x. The unions are asked only where they are used.
+    #[tactic(auto, using(bits::proofs::Laws::bit_zero))]
+    pub fn word(self, x: usize, above: u64, before: u64, diagonal: u64) -> u64
+        requires { let s = self in let f = s.filling in
+            (x < 64) × (bit_of s.top x ≡ true → United f.rules.now.words f.loads.now.bytes f.bound s.i s.j x above)
+            × (0 < s.j → Holds x (cell f.rules.now.words f.loads.now.bytes f.bound s.i (s.j - 1)) before)
+            × (bit_of s.pair x ≡ true → 0 < s.j
+            → United f.rules.now.words f.loads.now.bytes f.bound s.i (s.j - 1) x diagonal) }
+        ensures { let s = self.entry in let f = s.filling in
+            Holds x (cell f.rules.now.words f.loads.now.bytes f.bound s.i s.j) result }
     {
-        let Place { i, j, x, .. } = self.place;
-        let nothing = start(i, j, x);
-        let one = self.top();
-        let other = self.bottom();
-        let two = self.pair();
+        if !bit(self.rows, x) {
+            return 0;
+        }
+        let nothing = self.start(x);
+        let one = self.top(x, above);
+        let other = self.bottom(x, before);
+        let two = self.pair(x, diagonal);
         either(nothing, either(one, either(other, two)))
     }
 }

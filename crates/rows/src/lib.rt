@@ -1,24 +1,81 @@
 // The rows of a plane of the table: each is a word, in four cells.
 #![tactic(auto)]
 
-ghost use Rattle.std.specs.Prelude.{ℕ, suc, ◌+◌, ◌-◌, ◌*◌, ◌≤◌, ◌<◌, ◌≡◌, ◌&&◌, length};
+ghost use Rattle.std.specs.Prelude.{ℕ, suc, ◌+◌, ◌-◌, ◌*◌, ◌≤◌, ◌<◌, ◌≡◌, false, ◌&&◌, ◌||◌, length, get_or, leb};
 ghost use Rattle.channel.specs.Below.{any_below};
 ghost use Rattle.bits.specs.Bits.{bit_of};
+ghost use Rattle.cells.specs.Cells.{word_at};
 ghost use Rattle.rows.specs.Held.{held};
 
-use bits::{bit, either};
+use bits::{below, bit, both, either, from, lowest};
 use cells::read_word;
 
-// The union of the rows up to x of the plane at `base`, each row that is a step of `by` before x.
-pub fn rows(work: &[u16], base: usize, x: usize, by: u64) -> u64
-    requires { (base + 4 * x + 4 ≤ length work.now) × (x < 64) }
-    ensures { (y : ℕ) → bit_of result y ≡ any_below (suc x) (λ (n : ℕ). bit_of by (x - n) && held work.now base n y) }
+// Of each of the first rows of the plane at `base` the union of the rows up to it that are a step of `by` before it. Most often `by` holds
+// all steps from some step on, as far as the plane goes.
+pub fn unions(work: &[u16], base: usize, count: usize, by: u64) -> [u64; 64]
+    requires { (base + 4 * count ≤ length work.now) × (count ≤ 64) }
+    ensures { (x y : ℕ) → x < count
+        → bit_of (get_or result x 0) y ≡ any_below (suc x) (λ (n : ℕ). bit_of by (x - n) && held work.now base n y) }
 {
+    let rows = read_rows(work, base, count);
+    let least = lowest(by);
+    let inside = below(count);
+    if both(by, inside) == both(from(least), inside) {
+        return all_before(&rows, count, least);
+    }
+    step_by_step(&rows, count, by, least)
+}
+
+// The rows, out of their cells.
+fn read_rows(work: &[u16], base: usize, count: usize) -> [u64; 64]
+    requires { (base + 4 * count ≤ length work.now) × (count ≤ 64) }
+    ensures { (n : ℕ) → n < count → get_or result n 0 ≡ word_at work.now (base + 4 * n) }
+{
+    let mut rows: [u64; 64] = [0; 64];
+    for x in 0..count {
+        rows[x] = read_word(work, base + 4 * x);
+    }
+    rows
+}
+
+// The unions by all steps from `least` on.
+fn all_before(rows: &[u64; 64], count: usize, least: usize) -> [u64; 64]
+    requires { (count ≤ 64) × (least ≤ 64) }
+    ensures { (x y : ℕ) → x < count
+        → bit_of (get_or result x 0) y ≡ any_below (suc x - least) (λ (n : ℕ). bit_of (get_or rows.now n 0) y) }
+{
+    let mut unions: [u64; 64] = [0; 64];
     let mut found: u64 = 0;
-    for n in 0..=x {
-        if bit(by, x - n) {
-            found = either(read_word(work, base + 4 * n), found);
+    for x in least..count {
+        found = either(rows[x - least], found);
+        unions[x] = found;
+    }
+    unions
+}
+
+// The unions by the steps of `by`, of which `least` is the first.
+fn step_by_step(rows: &[u64; 64], count: usize, by: u64, least: usize) -> [u64; 64]
+    requires { (count ≤ 64) × ((n : ℕ) → n < least → bit_of by n ≡ false) }
+    ensures { (x y : ℕ) → x < count
+        → bit_of (get_or result x 0) y ≡ any_below (suc x) (λ (n : ℕ). bit_of by (x - n) && bit_of (get_or rows.now n 0) y) }
+{
+    let end = 64 - u64::leading_zeros(by) as usize;
+    let mut unions: [u64; 64] = [0; 64];
+    for s in least..end.min(count) {
+        if bit(by, s) {
+            add_step(&mut unions, rows, count, s);
         }
     }
-    found
+    unions
+}
+
+// Adds to each row's union the row that is s before it.
+fn add_step(unions: &mut [u64; 64], rows: &[u64; 64], count: usize, s: usize)
+    requires { count ≤ 64 }
+    ensures { (x y : ℕ) → x < count
+        → bit_of (get_or unions.new x 0) y ≡ ((leb s x && bit_of (get_or rows.now (x - s) 0) y) || bit_of (get_or unions.old x 0) y) }
+{
+    for x in s..count {
+        unions[x] = either(rows[x - s], unions[x]);
+    }
 }

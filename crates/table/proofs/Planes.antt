@@ -1,19 +1,21 @@
 -- Why the planes, filled one after the other, hold the table.
 -- Assumes nothing.
-use Rattle.std.proofs.Common.{ℕ, zero, suc, ◌+◌, ◌-◌, ◌*◌, ◌%◌, ◌^◌, ◌≤◌, ◌<◌, ◌≡◌, refl, sym, ◌∙◌, ap, ap₂, subst, List, Bool, true, false, ◌&&◌, ◌||◌, ◌⊎◌, inl, inr, arith, mul-le-mul_right, add-mul, one-mul, suc-mul, mod-eq_of_lt, length, drop, drop-drop, leb, ltb, eqb, ltb-true, ltb-false, eqb-true}
+use Rattle.std.proofs.Common.{ℕ, suc, ◌+◌, ◌-◌, ◌*◌, ◌%◌, ◌^◌, ◌≤◌, ◌<◌, ◌≡◌, refl, sym, ◌∙◌, ap, ap₂, subst, List, Bool, true, false, ◌&&◌, ◌⊎◌, inl, inr, arith, mul-le-mul_right, add-mul, one-mul, suc-mul, mod-eq_of_lt, length, drop, drop-drop, leb, ltb, eqb, ltb-true, ltb-false, eqb-true}
 use Rattle.std.proofs.Math.Nat.{mul-add-mod_self_right}
 use Rattle.std.proofs.lemmas.Bool.{eqb-false}
+use Rattle.std.proofs.Math.Bool.{and-eq-true_iff}
+use Rattle.channel.specs.Below.{any_below}
 use Rattle.channel.proofs.Below.{any_below_cong}
 use Rattle.bits.specs.Bits.{bit_of}
 use Rattle.cells.specs.Cells.{word_at, put_word}
 use Rattle.cells.proofs.Words.{length-put, drop-put, cell-put, word-put_same, word-put_other}
 use Rattle.entry.specs.declared.Grid.{Grid}
-use Rattle.arrays.specs.Rules.{allowed_at, range_at}
+use Rattle.arrays.specs.Rules.{range_at}
 use Rattle.arrays.specs.Loads.{load_at}
 use Rattle.rows.specs.Held.{held}
-use Rattle.entry.specs.Entry.{start_part, top_part, bottom_part, both_part, entry, bottoms_only, with_tops, cell}
+use Rattle.entry.specs.Entry.{cell}
 use Rattle.table.specs.Planes.{Measures, Earlier, SameGaps, Filled, AsksTable, base_of}
-use Rattle.entry.specs.Asks.{AsksEntry}
+use Rattle.entry.specs.Columns.{Tops, Union}
 
 -- the products of the places
 next-product : (n m : ℕ) → (n + 1) * m ≡ n * m + m
@@ -29,80 +31,25 @@ before_base g i j at e = omega (arith, suc-mul j g.size)
 diagonal_base : (g : Grid) (i j at : ℕ) → at ≡ base_of g (suc i) (suc j) → at - (g.stride + g.size) ≡ base_of g i j
 diagonal_base g i j at e = omega (arith, suc-mul i g.stride, suc-mul j g.size)
 
--- a part that counts only where a pin is placed
-guarded : (i : ℕ) {a b : Bool} → (0 < i → a ≡ b) → (ltb 0 i && a) ≡ (ltb 0 i && b)
-guarded i {a} {b} h = by-test (ltb 0 i) refl
-  where
-    by-test : (t : Bool) → ltb 0 i ≡ t → (t && a) ≡ (t && b)
-    by-test true e = h (ltb-true 0 i e)
-    by-test false e = refl
+-- what is read of the planes before a row's own
+module _ (rules loads : List ℕ) (bound : ℕ) (g : Grid) (i j : ℕ) (work : List ℕ) (few : j < g.across) where
+  pub before_holds :
+      (at x y : ℕ) → 0 < j → x < g.rows → y < 64 → at ≡ base_of g i j → Earlier rules loads bound g i j work
+      → bit_of (word_at work (at - g.size + 4 * x)) y ≡ cell rules loads bound i (j - 1) x y
+  before_holds at x y p hx hy e h =
+      let there : at - g.size ≡ base_of g i (j - 1) = before_base g i (j - 1) at (e ∙ ap (base_of g i) (omega arith)) in
+      ap (λ (b : ℕ). held work b x y) there ∙ h i (j - 1) x y (inr (refl, omega arith)) (omega arith) hx hy
 
--- an entry depends on the planes before it only where there are any, and only on the places up to its own
-module _ (rules loads : List ℕ) (bound i j x y : ℕ) where
-  top_cong :
-      (f g : ℕ → ℕ → Bool) → (0 < i → (n : ℕ) → n ≤ x → f n y ≡ g n y)
-      → top_part rules loads bound i j f x y ≡ top_part rules loads bound i j g x y
-  top_cong f g h =
-      guarded i λ p.
-      ap (λ (t : Bool). ltb (y + j) (x + i) && (leb (load_at loads i j 0) bound && (bit_of (allowed_at rules 0 i) x && t)))
-      (any_below_cong (suc x) _ _ (λ n l. ap (λ (t : Bool). bit_of (range_at rules 0 i) (x - n) && t) (h p n (omega arith))))
-
-  bottom_cong :
-      (f g : ℕ → ℕ → Bool) → (0 < j → (n : ℕ) → n ≤ y → f x n ≡ g x n)
-      → bottom_part rules loads bound i j f x y ≡ bottom_part rules loads bound i j g x y
-  bottom_cong f g h =
-      guarded j λ p.
-      ap (λ (t : Bool). ltb (x + i) (y + j) && (leb (load_at loads i j 1) bound && (bit_of (allowed_at rules 1 j) y && t)))
-      (any_below_cong (suc y) _ _ (λ n l. ap (λ (t : Bool). bit_of (range_at rules 1 j) (y - n) && t) (h p n (omega arith))))
-
-  both_cong :
-      (f g : ℕ → ℕ → Bool) → (0 < i → 0 < j → (n m : ℕ) → n ≤ x → m ≤ y → f n m ≡ g n m)
-      → both_part rules loads bound i j f x y ≡ both_part rules loads bound i j g x y
-  both_cong f g h =
-      guarded i λ p.
-      guarded j λ q.
-      ap
-      (λ (t : Bool). eqb (y + j) (x + i)
-      && (leb (load_at loads i j 2) bound && (bit_of (allowed_at rules 0 i) x && (bit_of (allowed_at rules 1 j) y && t))))
-      (any_below_cong (suc y) _ _
-      (λ m l. ap (λ (t : Bool). bit_of (range_at rules 1 j) (y - m) && t)
-      (any_below_cong (suc x) _ _
-      (λ n k. ap (λ (t : Bool). bit_of (range_at rules 0 i) (x - n) && t) (h p q n m (omega arith) (omega arith))))))
-
-  entry_cong :
-      (a a' b b' d d' : ℕ → ℕ → Bool) → (0 < i → (n : ℕ) → n ≤ x → a n y ≡ a' n y) → (0 < j → (n : ℕ) → n ≤ y → b x n ≡ b' x n)
-      → (0 < i → 0 < j → (n m : ℕ) → n ≤ x → m ≤ y → d n m ≡ d' n m)
-      → entry rules loads bound i j a b d x y ≡ entry rules loads bound i j a' b' d' x y
-  unfolding entry
-  entry_cong a a' b b' d d' ha hb hd =
-      ap (λ (t : Bool). start_part i j x y || t)
-      (ap₂ (λ (s t : Bool). s || t) (top_cong a a' ha) (ap₂ (λ (s t : Bool). s || t) (bottom_cong b b' hb) (both_cong d d' hd)))
-
--- the word of a place is the table's, where the planes before it are
-module _ (rules loads : List ℕ) (bound : ℕ) (g : Grid) (work : List ℕ) (x y : ℕ) (hx : x < g.rows) (hy : y < 64) where
-  moved : (n m : ℕ) {a b : ℕ} → a ≡ b → held work a n m ≡ held work b n m
-  moved n m e = ap (λ (k : ℕ). held work k n m) e
-
-  pub entry-cell :
-      (i j at : ℕ) → j < g.across → at ≡ base_of g i j → Earlier rules loads bound g i j work
-      → entry rules loads bound i j (held work (at - g.stride)) (held work (at - g.size)) (held work (at - (g.stride + g.size))) x y
-      ≡ cell rules loads bound i j x y
-  unfolding cell bottoms_only with_tops
-  entry-cell zero zero at hj e h =
-      entry_cong rules loads bound 0 0 x y _ _ _ _ _ _ (λ p. absurd (omega arith)) (λ p. absurd (omega arith)) (λ p. absurd (omega arith))
-  entry-cell zero (suc j) at hj e h =
-      entry_cong rules loads bound 0 (suc j) x y _ _ _ _ _ _ (λ p. absurd (omega arith))
-      (λ p n l. moved x n (before_base g 0 j at e) ∙ h 0 j x n (inr (refl, omega arith)) (omega arith) hx (omega arith))
-      (λ p. absurd (omega arith))
-  entry-cell (suc i) zero at hj e h =
-      entry_cong rules loads bound (suc i) 0 x y _ _ _ _ _ _
-      (λ p n l. moved n y (above_base g i 0 at e) ∙ h i 0 n y (inl (omega arith)) hj (omega arith) hy)
-      (λ p. absurd (omega arith)) (λ p q. absurd (omega arith))
-  entry-cell (suc i) (suc j) at hj e h =
-      entry_cong rules loads bound (suc i) (suc j) x y _ _ _ _ _ _
-      (λ p n l. moved n y (above_base g i (suc j) at e) ∙ h i (suc j) n y (inl (omega arith)) hj (omega arith) hy)
-      (λ p n l. moved x n (before_base g (suc i) j at e) ∙ h (suc i) j x n (inr (refl, omega arith)) (omega arith) hx (omega arith))
-      (λ p q n m k l. moved n m (diagonal_base g i j at e) ∙ h i j n m (inl (omega arith)) (omega arith) (omega arith) (omega arith))
+  pub united_holds :
+      (at by x w : ℕ) → 0 < i → x < g.rows → at ≡ base_of g (i - 1) j → by ≡ range_at rules 0 i
+      → ((y : ℕ) → bit_of w y ≡ any_below (suc x) (λ (n : ℕ). bit_of by (x - n) && held work at n y))
+      → Earlier rules loads bound g i j work → Union (range_at rules 0 i) x (cell rules loads bound (i - 1) j) w
+  united_holds at by x w p hx e r union h y hy =
+      union y
+      ∙ any_below_cong (suc x) _ _
+      (λ n l.
+      ap₂ (λ (s t : Bool). s && t) (ap (λ (k : ℕ). bit_of k (x - n)) r)
+      (ap (λ (b : ℕ). held work b n y) e ∙ h (i - 1) j n y (inl (omega arith)) few (omega arith) hy))
 
 -- a word put into a plane leaves the planes before it
 module _ (rules loads : List ℕ) (bound : ℕ) (g : Grid) (sizes : Measures g) where
@@ -256,24 +203,6 @@ filled_then {end = end} {end' = end'} {old = old} {mid = mid} f h l =
     further : end' ≡ end + (end' - end)
     further = omega arith
 
--- a row of a plane, and the same row of the planes before it, lie in the cells
-pub place_room :
-    (work : List ℕ) (g : Grid) (i j x at : ℕ) → Measures g → i ≤ 64 → j < g.across → x < g.rows → at ≡ base_of g i j
-    → at + g.size ≤ length work → AsksEntry work g (record { i = i; j = j; x = x; at = at })
-place_room work g i j x at sizes hi hj hx e room =
-    record {
-      i = hi;
-      j = omega (arith, sizes.across.1);
-      x = (omega (arith, sizes.rows.0), omega (arith, sizes.rows.1));
-      whole = room;
-      above = λ p. omega (arith, multiple i g.stride p);
-      before = λ p. omega (arith, multiple j g.size p);
-      diagonal = λ p q. omega (arith, multiple i g.stride p, multiple j g.size q);
-    }
-  where
-    multiple : (n m : ℕ) → 0 < n → m ≤ n * m
-    multiple n m p = omega (arith, mul-le-mul_right m p, one-mul m)
-
 -- where the planes of one i start and end
 module _ (g : Grid) (i : ℕ) where
   pub plane_next : (j : ℕ) → base_of g i j + g.size ≡ base_of g i (j + 1)
@@ -311,3 +240,10 @@ pub filled_none :
     (rules loads : List ℕ) (bound : ℕ) (g : Grid) (i j end : ℕ) (work : List ℕ) → Earlier rules loads bound g i j work
     → Filled rules loads bound g i j end work work
 filled_none rules loads bound g i j end work h = record { kept = refl; behind = refl; gaps = λ k l. refl; cells = h }
+
+-- a column that a letter has is within the bound
+pub letter_within :
+    (rules loads : List ℕ) (bound i j letter w x : ℕ) → Tops rules loads bound i j letter w → bit_of w x ≡ true
+    → leb (load_at loads i j letter) bound ≡ true
+letter_within rules loads bound i j letter w x tops e =
+    ((and-eq-true_iff _ _).0 ((and-eq-true_iff _ _).0 (sym (tops x) ∙ e)).1).0

@@ -1,19 +1,90 @@
 // Filling the table, plane by plane.
-ghost use Rattle.std.specs.Prelude.{◌+◌, ◌*◌, ◌≤◌, ◌<◌, ◌≡◌, length};
+ghost use Rattle.std.specs.Prelude.{◌+◌, ◌-◌, ◌*◌, ◌≤◌, ◌<◌, ◌≡◌, true, length, leb};
 ghost use Rattle.table.specs.Planes.{Measures, Earlier, Filled, AsksTable, base_of};
+ghost use Rattle.table.specs.United.{Alone, Paired};
+ghost use Rattle.arrays.specs.Loads.{load_at};
+ghost use Rattle.bits.specs.Bits.{bit_of};
+ghost use Rattle.entry.specs.Entry.{cell};
+ghost use Rattle.entry.specs.Columns.{Holds, United};
 
 use crate::query::Plane;
-use cells::write_word;
-use entry::{Filling, Place, Row};
+use cells::{read_word, write_word};
+use channel::Side;
+use entry::{Columns, Filling};
+use rows::unions;
 
 // The cells and what fills them stay two parameters: of a type that held both, each function would have to say too that the cells are still
 // the caller's and that what fills them is the same.
 
+// Whether the unions of the plane of (i - 1, j) are used: for a top pin alone, or for a pair one bottom pin later.
+fn used(filling: Filling, i: usize, j: usize) -> bool
+    requires { let f = filling in Measures f.grid × (i ≤ 64) × (j < f.grid.across) }
+    ensures { let f = filling.entry in
+        (leb (load_at f.loads.now.bytes i j 0) f.bound ≡ true → result ≡ true)
+        × (j + 1 < f.grid.across → leb (load_at f.loads.now.bytes i (j + 1) 2) f.bound ≡ true → result ≡ true) }
+{
+    if filling.loads.at(i, j).top <= filling.bound {
+        return true;
+    }
+    j + 1 < filling.grid.across && filling.loads.at(i, j + 1).both <= filling.bound
+}
+
+// Those unions, by the steps of the i-th top pin.
+fn united(work: &[u16], filling: Filling, i: usize, j: usize) -> [u64; 64]
+    requires { let f = filling in
+        Measures f.grid × (i ≤ 64) × (j < f.grid.across) × (base_of f.grid i j + f.grid.size ≤ length work.now)
+        × Earlier f.rules.now.words f.loads.now.bytes f.bound f.grid i j work.now }
+    ensures { let f = filling.entry in
+        Alone f.rules.now.words f.loads.now.bytes f.bound f.grid i j result
+        × (j + 1 < f.grid.across → Paired f.rules.now.words f.loads.now.bytes f.bound f.grid i (j + 1) result) }
+{
+    if i == 0 || !used(filling, i, j) {
+        return [0; 64];
+    }
+    let plane = Plane {
+        work,
+        grid: filling.grid,
+        i: i - 1,
+        j,
+    };
+    let range = filling.rules.range(Side::Top, i);
+    unions(work, plane.start(), filling.grid.rows, range)
+}
+
+// The word of row x of the plane that starts at `at`.
+fn row(work: &[u16], columns: Columns, at: usize, x: usize, above: u64, diagonal: u64) -> u64
+    requires { let s = columns in let f = s.filling in
+        Measures f.grid × (x < f.grid.rows) × (s.j < f.grid.across) × (at ≡ base_of f.grid s.i s.j)
+        × (at + f.grid.size ≤ length work.now)
+        × Earlier f.rules.now.words f.loads.now.bytes f.bound f.grid s.i s.j work.now
+        × (bit_of s.top x ≡ true → United f.rules.now.words f.loads.now.bytes f.bound s.i s.j x above)
+        × (bit_of s.pair x ≡ true → 0 < s.j
+        → United f.rules.now.words f.loads.now.bytes f.bound s.i (s.j - 1) x diagonal) }
+    ensures { let s = columns.entry in let f = s.filling in
+        Holds x (cell f.rules.now.words f.loads.now.bytes f.bound s.i s.j) result }
+{
+    let before = if columns.j == 0 {
+        0
+    } else {
+        read_word(work, at - columns.filling.grid.size + 4 * x)
+    };
+    columns.word(x, above, before, diagonal)
+}
+
 // Fills the plane of (i, j).
-fn fill_plane(work: &mut [u16], filling: Filling, i: usize, j: usize)
+fn fill_plane(
+    work: &mut [u16],
+    filling: Filling,
+    i: usize,
+    j: usize,
+    above: &[u64; 64],
+    diagonal: &[u64; 64],
+)
     requires { let f = filling in
         Measures f.grid × (i ≤ 64) × (j < f.grid.across) × (base_of f.grid i j + f.grid.size ≤ length work.old)
-        × Earlier f.rules.now.words f.loads.now.bytes f.bound f.grid i j work.old }
+        × Earlier f.rules.now.words f.loads.now.bytes f.bound f.grid i j work.old
+        × Alone f.rules.now.words f.loads.now.bytes f.bound f.grid i j above.now
+        × (0 < j → Paired f.rules.now.words f.loads.now.bytes f.bound f.grid i j diagonal.now) }
     ensures { let f = filling.entry in
         Filled f.rules.now.words f.loads.now.bytes f.bound f.grid i (j + 1) (base_of f.grid i (j + 1)) work.old work.new }
 {
@@ -24,13 +95,9 @@ fn fill_plane(work: &mut [u16], filling: Filling, i: usize, j: usize)
         j,
     };
     let at = plane.start();
+    let columns = filling.columns(i, j);
     for x in 0..filling.grid.rows {
-        let row = Row {
-            filling,
-            work,
-            place: Place { i, j, x, at },
-        };
-        let w = row.word();
+        let w = row(work, columns, at, x, above[x], diagonal[x]);
         write_word(work, at + 4 * x, w);
     }
 }
@@ -43,8 +110,11 @@ fn fill_row(work: &mut [u16], filling: Filling, i: usize)
     ensures { let f = filling.entry in
         Filled f.rules.now.words f.loads.now.bytes f.bound f.grid (i + 1) 0 ((i + 1) * f.grid.stride) work.old work.new }
 {
+    let mut diagonal: [u64; 64] = [0; 64];
     for j in 0..filling.grid.across {
-        fill_plane(work, filling, i, j);
+        let above = united(work, filling, i, j);
+        fill_plane(work, filling, i, j, &above, &diagonal);
+        diagonal = above;
     }
 }
 

@@ -1,19 +1,36 @@
-use Rattle.std.proofs.Common.{◌<◌, ◌∙◌, arith}
-use Rattle.table.proofs.Planes.{rows_more, entry-cell}
+use Rattle.std.proofs.Common.{◌<◌, arith}
+use Rattle.table.proofs.Planes.{rows_more, letter_within}
 use Rattle.table.proofs.plane.fill_plane.Goals as goal
+
+pub row-w-requires : goal.row-w-requires
+row-w-requires c =
+    let a = c.args in
+    let f = a.filling in
+    let l = c.loop-x in
+    let columns = c.columns-columns.result in
+    let same = c.columns-columns.ensures in
+    let alone = letter_within f.rules.now.words f.loads.now.bytes f.bound a.i a.j 0 columns.top l.x (rw (same.0, same.1, same.2) at columns.tops) in
+    let paired = letter_within f.rules.now.words f.loads.now.bytes f.bound a.i a.j 2 columns.pair l.x (rw (same.0, same.1, same.2) at columns.pairs.0) in
+    rw (same.0, same.1, same.2) (
+      c.requires.0,
+      omega arith,
+      c.requires.2,
+      c.start-at.ensures,
+      omega (arith, c.start-at.ensures, c.requires.3),
+      l.invariant.cells,
+      λ e. c.requires.5 (alone e) l.x (omega arith),
+      λ e p. c.requires.6 p (paired e) l.x (omega arith),
+    )
 
 pub loop-x-preserved : goal.loop-x-preserved
 loop-x-preserved c =
     let a = c.args in
     let f = a.filling in
     let l = c.loop-x in
+    let same = c.columns-columns.ensures in
     let at = c.start-at.result in
     let here : l.x < f.grid.rows = omega arith in
     rw c.write_word.ensures
-    (rows_more _ _ _ f.grid c.requires.0 a.i a.j at c.start-at.ensures a.work.now l.x c.word-w.result l.work here
+    (rows_more _ _ _ f.grid c.requires.0 a.i a.j at c.start-at.ensures a.work.now l.x c.row-w.result l.work here
     (omega (arith, c.start-at.ensures, c.requires.3))
-    (omega (arith, c.word-w.type_inv))
-    (λ y hy.
-    c.word-w.ensures y hy
-    ∙ entry-cell _ _ _ f.grid l.work l.x y here hy a.i a.j at c.requires.2 c.start-at.ensures l.invariant.cells)
-    l.invariant)
+    (omega (arith, c.row-w.type_inv)) (rw (same.0, same.1, same.2) at c.row-w.ensures) l.invariant)

@@ -1,9 +1,13 @@
--- `table::fill_row` meets its contract. The loop's invariant: the planes passed are filled.
+-- `table::fill_row` meets its contract. The loop's invariant: the planes passed are filled, and the unions for pairs of the next one are
+-- at hand.
 -- Assumes nothing.
+use Rattle.std.proofs.Common.{◌<◌}
 use Rattle.table.specs.Planes.{Filled, base_of}
+use Rattle.table.specs.United.{Paired}
 use Rattle.table.proofs.plane.fill_row.Given as goal
 
 abbrev pub invariant-loop-j : goal.invariant-loop-j
 invariant-loop-j l =
     let f = l.filling in
     Filled f.rules.now.words f.loads.now.bytes f.bound f.grid l.i l.j (base_of f.grid l.i l.j) l.initial.work l.work
+    × (0 < l.j → l.j < f.grid.across → Paired f.rules.now.words f.loads.now.bytes f.bound f.grid l.i l.j l.diagonal)

@@ -1,0 +1,18 @@
+use Rattle.std.proofs.Common.{ℕ, refl, ◌∙◌, arith, length-set, get_or}
+use Rattle.bits.specs.Bits.{bit_of}
+use Rattle.rows.proofs.Back.{found_none, found_more, made_none, made_more}
+use Rattle.rows.proofs.all_before.Goals as goal
+
+pub loop-x-init : goal.loop-x-init
+loop-x-init c =
+    let rows = c.args.rows.now in
+    let f = λ (n y : ℕ). bit_of (get_or rows n 0) y in
+    (found_none f c.args.least, refl, made_none f c.args.least c.requires.1)
+
+pub loop-x-preserved : goal.loop-x-preserved
+loop-x-preserved c =
+    let l = c.loop-x in
+    let rows = c.args.rows.now in
+    let f = λ (n y : ℕ). bit_of (get_or rows n 0) y in
+    let found = found_more f c.args.least l.x l.found _ (omega arith) c.either-found.ensures l.invariant.0 in
+    (found, length-set _ _ _ ∙ l.invariant.1, made_more f c.args.least l.x _ l.unions (omega (arith, l.invariant.1)) found l.invariant.2)
