@@ -1,7 +1,7 @@
 -- Laws of the words of a terminal: what is put in is read again, and the words of every other terminal are as they were.
 -- Assumes nothing.
-use Rattle.std.proofs.Common.{ℕ, ◌+◌, ◌-◌, ◌/◌, ◌%◌, ◌≤◌, ◌<◌, ◌≡◌, refl, ◌∙◌, List, Bool, true, false, ◌⊎◌, inl, inr, arith, length, set, length-set, get_or-set_same, get_or-set_other, ltb, ltb-true, ltb-false}
-use Rattle.arrays.specs.Rules.{pins, rule_words, range_place, allowed_place, range_at, allowed_at, put_rule}
+use Rattle.std.proofs.Common.{ℕ, ◌≤◌, ◌≡◌, ◌∙◌, List, arith, length, set, length-set, get_or-set_same, get_or-set_other}
+use Rattle.arrays.specs.Rules.{pins, rule_words, range_place, allowed_place, range_at, allowed_at, put_rule, put_allowed}
 
 module _ (rules : List ℕ) (side i w a : ℕ) (low : 1 ≤ i) (high : i ≤ pins) where
   -- the range is in
@@ -32,3 +32,16 @@ module _ (rules : List ℕ) (side i w a : ℕ) (low : 1 ≤ i) (high : i ≤ pin
     allowed-put-other =
         get_or-set_other half (allowed_place side i) (allowed_place b n) a 0 (λ e. other (omega arith) (omega arith))
         ∙ get_or-set_other rules (range_place side i) (allowed_place b n) w 0 (λ e. omega arith)
+
+-- the allowed set alone
+module _ (rules : List ℕ) (side i a : ℕ) (low : 1 ≤ i) (high : i ≤ pins) where
+  pub allowed-put_allowed : length rules ≡ rule_words → side ≤ 1 → allowed_at (put_allowed rules side i a) side i ≡ a
+  allowed-put_allowed size sides = get_or-set_same rules (allowed_place side i) a 0 (omega arith)
+
+  module _ (b n : ℕ) (from : 1 ≤ n) (to : n ≤ pins) where
+    pub range-put_allowed : range_at (put_allowed rules side i a) b n ≡ range_at rules b n
+    range-put_allowed = get_or-set_other rules (allowed_place side i) (range_place b n) a 0 (λ e. omega arith)
+
+    pub allowed-put_allowed-other : (b ≡ side → n ≡ i → ⊥) → allowed_at (put_allowed rules side i a) b n ≡ allowed_at rules b n
+    allowed-put_allowed-other other =
+        get_or-set_other rules (allowed_place side i) (allowed_place b n) a 0 (λ e. other (omega arith) (omega arith))

@@ -36,3 +36,7 @@ allowed_at rules side i = get_or rules (allowed_place side i) 0
 -- the array with a terminal's two words put in
 abbrev pub put_rule : List ℕ → ℕ → ℕ → ℕ → ℕ → List ℕ
 put_rule rules side i range allowed = set (set rules (range_place side i) range) (allowed_place side i) allowed
+
+-- and with its allowed set alone
+abbrev pub put_allowed : List ℕ → ℕ → ℕ → ℕ → List ℕ
+put_allowed rules side i allowed = set rules (allowed_place side i) allowed

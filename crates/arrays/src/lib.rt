@@ -3,7 +3,7 @@
 #![tactic(auto)]
 
 ghost use Rattle.std.specs.Prelude.{◌≤◌, ◌≡◌, length, replicate};
-ghost use Rattle.arrays.specs.Rules.{pins, rule_words, side_number, range_at, allowed_at, put_rule};
+ghost use Rattle.arrays.specs.Rules.{pins, rule_words, side_number, range_at, allowed_at, put_rule, put_allowed};
 ghost use Rattle.arrays.specs.Loads.{load_bytes, load_at, put_loads};
 
 use channel::Side;
@@ -63,6 +63,16 @@ impl RuleTable {
         let at = SIDE * side as usize + (i - 1);
         self.words[at] = range;
         self.words[at + PINS] = allowed;
+    }
+
+    // Puts in its allowed columns alone.
+    pub fn put_allowed(&mut self, side: Side, i: usize, allowed: u64)
+        requires { (1 ≤ i) × (i ≤ pins) }
+        ensures words { self.new.words ≡ put_allowed self.old.words (side_number side) i allowed }
+        ensures size { length self.new.words ≡ rule_words }
+    {
+        let place = SIDE * side as usize + (i - 1) + PINS;
+        self.words[place] = allowed;
     }
 }
 

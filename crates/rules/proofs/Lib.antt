@@ -1,2 +1,3 @@
 pub mod Terminals
+pub mod Ends
 pub mod Reading

@@ -96,15 +96,19 @@ next_terminal ts n t us e =
       behind = ap (drop 1) same;
     }
 
+-- where a side's words are the same, so are its rules
+pub rules_same :
+    (a : ℕ) (ts : List Terminal) (old new : List ℕ) → ((i : ℕ) → 1 ≤ i → i ≤ length ts → SameRule a i old new) → SideRules a ts old
+    → SideRules a ts new
+rules_same a ts old new same r =
+    record {
+      range = λ i e t p l h. ap (λ (w : ℕ). bit_of w e) (same i p l).0 ∙ r.range i e t p l h;
+      allowed = λ i x p l. ap (λ (w : ℕ). bit_of w x) (same i p l).1 ∙ r.allowed i x p l;
+    }
+
 -- the rules of one side are kept where those of the other are read
 pub rules_kept :
     (a b : ℕ) (ts us : List Terminal) (old new : List ℕ) → (a ≡ b → ⊥) → length ts ≤ pins → SideRules a ts old → SideRead b us old new
     → SideRules a ts new
 rules_kept a b ts us old new apart few r later =
-    record {
-      range = λ i e t p l h. ap (λ (w : ℕ). bit_of w e) (same i p l).0 ∙ r.range i e t p l h;
-      allowed = λ i x p l. ap (λ (w : ℕ). bit_of w x) (same i p l).1 ∙ r.allowed i x p l;
-    }
-  where
-    same : (i : ℕ) → 1 ≤ i → i ≤ length ts → SameRule a i old new
-    same i p l = later.others a i p (omega arith) (λ e. absurd (apart e))
+    rules_same a ts old new (λ i p l. later.others a i p (omega arith) (λ e. absurd (apart e))) r

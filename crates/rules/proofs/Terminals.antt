@@ -1,9 +1,8 @@
 -- Why the two words that are made for a terminal are its rule.
 -- Assumes nothing.
-use Rattle.std.proofs.Common.{ℕ, zero, suc, ◌+◌, ◌-◌, ◌/◌, ◌%◌, ◌^◌, ◌≤◌, ◌<◌, ◌≡◌, refl, sym, ◌∙◌, ap, List, Bool, true, false, ◌&&◌, ◌||◌, arith, zero-add, suc-add, add-one, leb, ltb, eqb, le-leb, ltb-true, ltb-false, lt-ltb, le-ltb, eqb-true}
-use Rattle.std.proofs.Math.Bool.{and-true, and-false, or-false}
+use Rattle.std.proofs.Common.{ℕ, zero, suc, ◌+◌, ◌-◌, ◌/◌, ◌%◌, ◌^◌, ◌≤◌, ◌<◌, ◌≡◌, sym, ◌∙◌, ap, List, arith, zero-add, suc-add, add-one, leb, eqb, le-leb}
 use Rattle.std.proofs.Math.Dec.{leb-suc-suc}
-use Rattle.std.proofs.lemmas.Bool.{lt-leb, eqb-false}
+use Rattle.std.proofs.lemmas.Bool.{lt-leb}
 use Rattle.channel.specs.Sheet.{Terminal}
 use Rattle.channel.specs.Assignment.{allows, in_range}
 use Rattle.channel.proofs.Sets.{allows_at}
@@ -11,48 +10,8 @@ use Rattle.terminal.specs.declared.Record.{Record}
 use Rattle.terminal.specs.Terminal.{terminal_of}
 use Rattle.reach.specs.Reach.{terminal_number}
 use Rattle.bits.specs.Bits.{bit_of}
-use Rattle.bits.proofs.Laws.{bit_zero, bit_shr, bit-full}
+use Rattle.bits.proofs.Laws.{bit_shr, bit-full}
 use Rattle.rules.specs.Sides.{TerminalRule}
-
--- of the numbers below e, the word holds those of which f holds
-abbrev pub Collected : (ℕ → Bool) → ℕ → ℕ → Type 0
-Collected f e w = (k : ℕ) → k < 64 → bit_of w k ≡ (ltb k e && f k)
-
-module _ (f : ℕ → Bool) where
-  -- no number yet
-  pub collected_none : Collected f 0 0
-  collected_none k h = rw (bit_zero, le-ltb k 0 (omega arith))
-
-  -- one number more
-  collected_more :
-      (e w new : ℕ) → Collected f e w → ((k : ℕ) → k < 64 → bit_of new k ≡ (bit_of w k || (eqb k e && f e)))
-      → Collected f (e + 1) new
-  collected_more e w new so_far step k h =
-      step k h
-      ∙ ap (λ (a : Bool). a || (eqb k e && f e)) (so_far k h)
-      ∙ by-test (eqb k e) (ltb k e) refl refl
-    where
-      by-test : (same less : Bool) → eqb k e ≡ same → ltb k e ≡ less → ((less && f k) || (same && f e)) ≡ (ltb k (e + 1) && f k)
-      by-test true true p q = absurd (omega (arith, eqb-true k e p, ltb-true k e q))
-      by-test true false p q =
-          let here : k ≡ e = eqb-true k e p in
-          rw (lt-ltb k (e + 1) (omega arith), here)
-      by-test false true p q = rw (lt-ltb k (e + 1) (omega (arith, ltb-true k e q))) (or-false (f k))
-      by-test false false p q = rw (le-ltb k (e + 1) (omega (arith, eqb-false k e p, ltb-false k e q)))
-
-  -- where f holds of it, and where it does not
-  pub collected_taken :
-      (e w one new : ℕ) → Collected f e w → f e ≡ true → ((k : ℕ) → k < 64 → bit_of one k ≡ eqb k e)
-      → ((k : ℕ) → bit_of new k ≡ (bit_of w k || bit_of one k)) → Collected f (e + 1) new
-  collected_taken e w one new so_far holds single either =
-      collected_more e w new so_far
-      (λ k h.
-      either k
-      ∙ ap (λ (a : Bool). bit_of w k || a) (single k h ∙ sym (ap (λ (a : Bool). eqb k e && a) holds ∙ and-true (eqb k e))))
-
-  pub collected_left : (e w : ℕ) → Collected f e w → f e ≡ false → Collected f (e + 1) w
-  collected_left e w so_far fails =
-      collected_more e w w so_far (λ k h. rw (fails, and-false, or-false))
 
 -- a number added on both sides of a test
 leb-add : (t a b : ℕ) → leb (t + a) (t + b) ≡ leb a b

@@ -13,7 +13,7 @@ ghost use Rattle.reach.specs.Reach.{terminal_number};
 ghost use Rattle.rules.specs.Sides.{TerminalRule, SideRead};
 
 use arrays::RuleTable;
-use bits::{either, single};
+use bits::{below, both, from};
 use channel::Side;
 use format::Terminals;
 use terminal::{Record, amount};
@@ -26,17 +26,34 @@ pub struct Rule {
     pub allowed: u64,
 }
 
-// The distances from least to greatest, of those up to 64.
+// The least distance of a range and its greatest, as the one distance test tells them: by how much 0 is too short, and 255 too long.
+fn least_of(least: u8, greatest: u8) -> usize
+    ensures { result ≡ least }
+{
+    match amount(0, 0, least, greatest) {
+        Some(short) => short.unsigned_abs() as usize,
+        None => 0,
+    }
+}
+
+fn greatest_of(least: u8, greatest: u8) -> usize
+    ensures { result ≡ greatest }
+{
+    match amount(0, 255, least, greatest) {
+        Some(long) => 255 - long.unsigned_abs() as usize,
+        None => 255,
+    }
+}
+
+// The distances from least to greatest, of those from 1 to 64.
 fn distances(least: u8, greatest: u8) -> u64
     ensures { (e : ℕ) → e < 64 → bit_of result e ≡ in_range least greatest 0 (e + 1) }
 {
-    let mut found: u64 = 0;
-    for e in 0..64 {
-        if amount(0, e + 1, least, greatest).is_none() {
-            found = either(found, single(e as usize));
-        }
-    }
-    found
+    let first = least_of(least, greatest);
+    both(
+        from(first.saturating_sub(1)),
+        below(greatest_of(least, greatest)),
+    )
 }
 
 // The rule of a terminal with its place, from 1. The first is tied to no terminal before it.

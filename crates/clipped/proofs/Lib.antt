@@ -1,0 +1,3 @@
+pub mod Terminals
+pub mod Side
+pub mod Sheets
