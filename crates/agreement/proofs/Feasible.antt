@@ -1,4 +1,4 @@
--- All pins can be placed, as the table says it, exactly when they can in the model; so a larger bound places no less.
+-- All pins can be placed, as the table says it, exactly when they can in the model.
 -- Assumes nothing.
 use Rattle.std.proofs.Common.{ℕ, zero, suc, ◌+◌, ◌-◌, ◌≤◌, ◌<◌, ◌≡◌, refl, sym, ◌∙◌, ap, List, Bool, true, false, cond, ◌&&◌, arith, length, ltb, eqb, ltb-true, lt-ltb, eqb-true}
 use Rattle.std.proofs.Math.Bool.{and-true, and-eq-true_iff}
@@ -10,9 +10,9 @@ use Rattle.channel.specs.Sheet.{Sheet}
 use Rattle.bits.specs.Bits.{in_word}
 use Rattle.entry.specs.Entry.{cell}
 use Rattle.reach.specs.Reach.{reach, feasible}
-use Rattle.reach.proofs.Bounds.{Held, reach-held, feasible_mono}
+use Rattle.reach.proofs.Bounds.{Held, reach-held}
 use Rattle.pass.specs.declared.plan.Plan.{Plan}
-use Rattle.pass.specs.Pass.{feasible_in, Rising}
+use Rattle.pass.specs.Pass.{feasible_in}
 use Rattle.agreement.specs.Ready.{Ready}
 use Rattle.agreement.proofs.Reached.{cell-reach}
 
@@ -103,8 +103,3 @@ module _ (s : Sheet) (rules loads : List ℕ) (n : Plan) (ready : Ready s rules 
         there u k (v, h, e) =
             let stands : Held n.p u = (reach-held s d n.p n.q u v e).0 in
             (stands.room, row_there n.p u (omega arith) stands (omega arith))
-
-  -- so a larger bound places no less
-  pub feasible_rising : Rising (feasible_in rules loads n)
-  feasible_rising d e h f =
-      feasible-in e ∙ feasible_mono s d e h (sym (feasible-in d) ∙ f)

@@ -37,6 +37,13 @@ guarded true r g same follows = same refl
 guarded false r true same follows = follows refl
 guarded false r false same follows = refl
 
+-- the number of the smallest letter of which its test holds
+pub ranks : (e t b : Bool) → cond e 0 (cond t 1 (cond b 2 3)) ≡ rank (smallest_of e t b)
+ranks true t b = refl
+ranks false true b = refl
+ranks false false true = refl
+ranks false false false = refl
+
 -- where the last pin stands in a column, there is a pin
 some_pin_lem : (i c : ℕ) → Held i (suc c) → 0 < i
 some_pin_lem zero c h = absurd (omega (arith, h.none refl))
@@ -270,9 +277,3 @@ module _
     choice-in =
         rw (empty-same, top-same, bottom-same)
         (ranks (letter_fits s d c i j x y empty) (letter_fits s d c i j x y top) (letter_fits s d c i j x y bottom))
-      where
-        ranks : (e t b : Bool) → cond e 0 (cond t 1 (cond b 2 3)) ≡ rank (smallest_of e t b)
-        ranks true t b = refl
-        ranks false true b = refl
-        ranks false false true = refl
-        ranks false false false = refl

@@ -2,7 +2,7 @@
 -- Assumes nothing.
 use Rattle.std.proofs.Common.{ℕ, ◌+◌, ◌≤◌, ◌≡◌, ◌∙◌, ap, List, arith, add-zero, length, get_or, set, length-set, get_or-set_same, get_or-set_other}
 use Rattle.arrays.specs.Rules.{pins}
-use Rattle.arrays.specs.Loads.{load_bytes, cut_place, load_at, put_loads}
+use Rattle.arrays.specs.Loads.{load_rows, cut_place, load_at, put_loads}
 
 pub length-put_loads : (loads : List ℕ) (i j top bottom both : ℕ) → length (put_loads loads i j top bottom both) ≡ length loads
 length-put_loads loads i j top bottom both = simp length-set
@@ -15,7 +15,7 @@ module _ (loads : List ℕ) (i j top bottom both : ℕ) (few : j ≤ pins) where
   two : List ℕ
   two = set one (cut_place i j + 1) bottom
 
-  module _ (size : length loads ≡ load_bytes) (tops : i ≤ pins) where
+  module _ (room : load_rows (i + 1) ≤ length loads) where
     pub top-put : load_at (put_loads loads i j top bottom both) i j 0 ≡ top
     unfolding one two
     top-put =

@@ -2,12 +2,12 @@
 -- Assumes nothing.
 use Rattle.std.specs.Prelude.{ℕ, ◌+◌, ◌*◌, List, get_or, set}
 
--- the cuts with one number of top pins: of 0 to 64 bottom pins; and the bytes of all cuts
+-- the cuts with one number of top pins: of 0 to 64 bottom pins; and the bytes of so many rows of cuts
 abbrev cuts : ℕ
 cuts = 65
 
-abbrev pub load_bytes : ℕ
-load_bytes = 12675
+abbrev pub load_rows : ℕ → ℕ
+load_rows n = 3 * (cuts * n)
 
 -- where the loads of the cut (i, j) start: a row of cuts for each i
 abbrev pub cut_place : ℕ → ℕ → ℕ

@@ -2,9 +2,9 @@
 // they stand in their array is said here alone.
 #![tactic(auto)]
 
-ghost use Rattle.std.specs.Prelude.{◌≤◌, ◌≡◌, length, replicate};
+ghost use Rattle.std.specs.Prelude.{◌+◌, ◌≤◌, ◌≡◌, length, replicate};
 ghost use Rattle.arrays.specs.Rules.{pins, rule_words, side_number, range_at, allowed_at, put_rule, put_allowed};
-ghost use Rattle.arrays.specs.Loads.{load_bytes, load_at, put_loads};
+ghost use Rattle.arrays.specs.Loads.{load_rows, load_at, put_loads};
 
 use channel::Side;
 
@@ -16,10 +16,8 @@ const SIDE: usize = 128;
 // The cuts with one number of top pins.
 const CUTS: usize = 65;
 
-// The words of both sides' rules, and the bytes of the loads of all cuts.
+// The words of both sides' rules.
 const RULES: usize = 256;
-
-const LOADS: usize = 12675;
 
 // The rules of both sides' terminals, flat: one equation says what `put` changes, where an array of arrays would carry two lengths. Places
 // are counted from 1, as in the definitions, and their bounds are clauses: a type of their own would be asked of every caller. The words
@@ -84,45 +82,29 @@ pub struct Loads {
     pub both: u8,
 }
 
-// The loads of all cuts, flat for the same reason.
-#[derive(Drop)]
-pub struct LoadTable {
-    pub bytes: [u8; LOADS],
+// The loads of a column of the cut (i, j), from the table of the loads: bytes, flat for the same reason, with a row of cuts for each number of
+// top pins. It has as many rows as its sheet needs, so its length is the caller's.
+pub fn loads_at(table: &[u8], i: usize, j: usize) -> Loads
+    requires { (j ≤ pins) × (load_rows (i + 1) ≤ length table.now) }
+    ensures top { result.top ≡ load_at table.now i j 0 }
+    ensures bottom { result.bottom ≡ load_at table.now i j 1 }
+    ensures both { result.both ≡ load_at table.now i j 2 }
+{
+    let at = 3 * (CUTS * i + j);
+    Loads {
+        top: table[at],
+        bottom: table[at + 1],
+        both: table[at + 2],
+    }
 }
 
-impl LoadTable {
-    // A table with each byte 0.
-    #[inline]
-    pub fn new() -> Self
-        ensures { result.bytes ≡ replicate load_bytes 0 }
-    {
-        LoadTable { bytes: [0; LOADS] }
-    }
-
-    // The loads of a column of the cut (i, j).
-    pub fn at(&self, i: usize, j: usize) -> Loads
-        requires { (i ≤ pins) × (j ≤ pins) }
-        ensures top { result.top ≡ load_at self.now.bytes i j 0 }
-        ensures bottom { result.bottom ≡ load_at self.now.bytes i j 1 }
-        ensures both { result.both ≡ load_at self.now.bytes i j 2 }
-    {
-        let at = 3 * (CUTS * i + j);
-        Loads {
-            top: self.bytes[at],
-            bottom: self.bytes[at + 1],
-            both: self.bytes[at + 2],
-        }
-    }
-
-    // Puts in the three loads of the cut (i, j).
-    pub fn put(&mut self, i: usize, j: usize, loads: Loads)
-        requires { (i ≤ pins) × (j ≤ pins) }
-        ensures bytes { self.new.bytes ≡ put_loads self.old.bytes i j loads.top loads.bottom loads.both }
-        ensures size { length self.new.bytes ≡ load_bytes }
-    {
-        let here = 3 * (CUTS * i + j);
-        self.bytes[here] = loads.top;
-        self.bytes[here + 1] = loads.bottom;
-        self.bytes[here + 2] = loads.both;
-    }
+// Puts the three loads of the cut (i, j) into such a table.
+pub fn put_loads(table: &mut [u8], i: usize, j: usize, loads: Loads)
+    requires { (j ≤ pins) × (load_rows (i + 1) ≤ length table.old) }
+    ensures { table.new ≡ put_loads table.old i j loads.top loads.bottom loads.both }
+{
+    let here = 3 * (CUTS * i + j);
+    table[here] = loads.top;
+    table[here + 1] = loads.bottom;
+    table[here + 2] = loads.both;
 }

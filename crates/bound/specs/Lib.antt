@@ -1,1 +1,2 @@
 pub mod LowerBound
+pub mod Least

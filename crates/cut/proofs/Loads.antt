@@ -30,8 +30,7 @@ crossing_parts f l h r ns = weight_parts _ _ _ (λ k. go (f k) (l k) (h k) (r k)
 ends : (f : ℕ → Bool) (own other : List ℕ) (i before behind : ℕ) (pin : PinPlaces) → Numbers f own other i pin → before < 255 → behind < 255
     → ends_here pin before behind ≡ ((f pin.net || comes own other i before pin.net) && not (goes_on own other (suc i) behind pin.net))
 ends f own other i before behind pin numbers x y =
-    rw (numbers.straight, numbers.opens before x, ← numbers.closes behind y)
-    (ap (λ (b : Bool). (f pin.net || comes own other i before pin.net) && b) (not_less pin.closes behind))
+    rw (numbers.straight, numbers.opens before x, ← numbers.closes behind y) (ap (λ (b : Bool). (f pin.net || comes own other i before pin.net) && b) (not_less pin.closes behind))
   where
     not_less : (a b : ℕ) → leb a b ≡ not (ltb b a)
     not_less a b = grind (arith, nat_tests)
@@ -48,45 +47,31 @@ lone f ns own other i j pin numbers h l once =
     (weight_one (λ (k : ℕ). (f k || comes own other i j k) && not (goes_on own other (suc i) j k)) pin.net ns once
     ∙ rw (ends f own other i j j pin numbers l l))
 
--- of one with both pins, the i-th from 0 and the j-th
-module _ (f : ℕ → Bool) (ns tops bottoms : List ℕ) (i j : ℕ) (t b : PinPlaces)
-    (top : Numbers f tops bottoms i t) (bottom : Numbers f bottoms tops j b)
-    (h : i < length tops) (g : j < length bottoms) (few : i < 254) (less : j < 254)
-    (once : pin_count t.net ns ≡ 1) (also : pin_count b.net ns ≡ 1) where
-  abbrev left : ℕ → Bool
-  left = comes tops bottoms i j
-
-  abbrev right : ℕ → Bool
-  right = goes_on tops bottoms (suc i) (suc j)
-
-  abbrev closing : ℕ → Bool
-  closing k = (f k || left k) && not (right k)
-
-  came : (k : ℕ) → comes tops bottoms (suc i) (suc j) k ≡ (left k || (eqb t.net k || eqb b.net k))
-  came k =
-      comes_more tops bottoms i (suc j) k h
-      ∙ rw (← comes_swap tops bottoms i (suc j) k, comes_more bottoms tops j i k g, comes_swap tops bottoms i j k)
-      (rw (← top.net, ← bottom.net, or_assoc, or_comm (eqb b.net k)))
-
-  at_bottom : ends_here b i (suc i) ≡ closing b.net
-  at_bottom =
-      ends f bottoms tops j i (suc i) b bottom (omega arith) (omega arith)
-      ∙ rw (comes_swap tops bottoms i j b.net, goes_swap tops bottoms (suc i) (suc j) b.net)
-
-  pair : weight_of (λ (k : ℕ). crossing (f k) (left k) (eqb t.net k || eqb b.net k) (right k)) ns
-      ≡ cut_of ns tops bottoms (suc i) (suc j)
-      + (cond (ends_here t j (suc j)) 1 0 + cond (not (eqb b.net t.net) && ends_here b i (suc i)) 1 0)
+-- of one with both pins
+module _ (f : ℕ → Bool) (ns tops bottoms : List ℕ) (i j : ℕ) (t b : PinPlaces) (top : Numbers f tops bottoms i t) (bottom : Numbers f bottoms tops j b)
+    (h : i < length tops) (g : j < length bottoms) (few : i < 254) (less : j < 254) (once : pin_count t.net ns ≡ 1) (also : pin_count b.net ns ≡ 1) where
+  pair : weight_of (λ (k : ℕ). crossing (f k) (comes tops bottoms i j k) (eqb t.net k || eqb b.net k) (goes_on tops bottoms (suc i) (suc j) k)) ns
+      ≡ cut_of ns tops bottoms (suc i) (suc j) + (cond (ends_here t j (suc j)) 1 0 + cond (not (eqb b.net t.net) && ends_here b i (suc i)) 1 0)
   pair =
-      crossing_parts f left (λ (k : ℕ). eqb t.net k || eqb b.net k) right ns
+      crossing_parts f (comes tops bottoms i j) (λ (k : ℕ). eqb t.net k || eqb b.net k) (goes_on tops bottoms (suc i) (suc j)) ns
       ∙ ap₂ (λ (x y : ℕ). x + y)
-      (ap (λ (w : ℕ → Bool). weight_of w ns) (fun_ext (λ k. ap (λ (x : Bool). x && right k) (sym (came k)))))
-      (weight_parts _ _ _ (λ k. apart (eqb t.net k) (eqb b.net k) (closing k)) ns
+      (ap (λ (w : ℕ → Bool). weight_of w ns) (fun_ext (λ k. ap (λ (x : Bool). x && goes_on tops bottoms (suc i) (suc j) k) (sym (came k)))))
+      (weight_parts _ _ _ (λ k. go (eqb t.net k) (eqb b.net k) (closing k)) ns
       ∙ ap₂ (λ (x y : ℕ). x + y)
       (weight_one closing t.net ns once ∙ rw (ends f tops bottoms i j (suc j) t top (omega arith) (omega arith)))
-      (weight_one (λ (k : ℕ). not (eqb t.net k) && closing k) b.net ns also ∙ rw (eqb_sym t.net b.net, at_bottom)))
+      (weight_one (λ (k : ℕ). not (eqb t.net k) && closing k) b.net ns also
+      ∙ rw (eqb_sym t.net b.net, ends f bottoms tops j i (suc i) b bottom (omega arith) (omega arith), comes_swap tops bottoms i j b.net, goes_swap tops bottoms (suc i) (suc j) b.net)))
     where
-      apart : (x y e : Bool) → cond ((x || y) && e) 1 0 ≡ cond (x && e) 1 0 + cond (y && (not x && e)) 1 0
-      apart x y e = grind (arith, nat_tests)
+      closing : ℕ → Bool
+      closing k = (f k || comes tops bottoms i j k) && not (goes_on tops bottoms (suc i) (suc j) k)
+
+      came : (k : ℕ) → comes tops bottoms (suc i) (suc j) k ≡ (comes tops bottoms i j k || (eqb t.net k || eqb b.net k))
+      came k =
+          comes_more tops bottoms i (suc j) k h
+          ∙ rw (← comes_swap tops bottoms i (suc j) k, comes_more bottoms tops j i k g, comes_swap tops bottoms i j k, ← top.net, ← bottom.net, or_assoc, or_comm (eqb b.net k))
+
+      go : (x y e : Bool) → cond ((x || y) && e) 1 0 ≡ cond (x && e) 1 0 + cond (y && (not x && e)) 1 0
+      go x y e = grind (arith, nat_tests)
 
 -- a net crosses by what it has left of the column, in it and right of it
 stretches : (f : ℕ → Bool) (k : ℕ) (left here right : List ℕ) (x y z : Bool)
@@ -117,14 +102,11 @@ module _ (m : Mark) (tops bottoms : List ℕ) where
       let ns : List ℕ = distinct (tops ++ bottoms) in
       ap (λ (w : ℕ → Bool). weight_of w ns)
       (fun_ext (λ k. stretches f k _ _ _ (comes bottoms tops j i k) (eqb b.net k) (goes_on bottoms tops (suc j) i k)
-      (rw (any_append, comes_swap tops bottoms i j k)) (rw (drop-cons bottoms j 0 h, or-false, bottom.net))
-      (rw (any_append, goes_swap tops bottoms i (suc j) k))))
+      (rw (any_append, comes_swap tops bottoms i j k)) (rw (drop-cons bottoms j 0 h, or-false, bottom.net)) (rw (any_append, goes_swap tops bottoms i (suc j) k))))
       ∙ lone f ns bottoms tops j i b bottom h l (rw bottom.net (once-bottom tops bottoms j h))
       ∙ rw (cut_swap ns tops bottoms i (suc j))
 
-  pub load_both : (i j : ℕ) (t b : PinPlaces)
-      → Numbers (straight m (tops ++ bottoms)) tops bottoms i t
-      → Numbers (straight m (tops ++ bottoms)) bottoms tops j b
+  pub load_both : (i j : ℕ) (t b : PinPlaces) → Numbers (straight m (tops ++ bottoms)) tops bottoms i t → Numbers (straight m (tops ++ bottoms)) bottoms tops j b
       → i < length tops → j < length bottoms → i < 254 → j < 254
       → load_of m tops bottoms TB (suc i) (suc j)
       ≡ cut tops bottoms (suc i) (suc j)

@@ -61,8 +61,7 @@ goes_swap own other i j n = rw (or_comm (has n (drop j other)))
 
 pub cut_swap : (ns own other : List ℕ) (i j : ℕ) → cut_of ns other own j i ≡ cut_of ns own other i j
 cut_swap ns own other i j =
-    ap (λ (f : ℕ → Bool). weight_of f ns)
-    (fun_ext (λ n. ap₂ (λ (a b : Bool). a && b) (comes_swap own other i j n) (goes_swap own other i j n)))
+    ap (λ (f : ℕ → Bool). weight_of f ns) (fun_ext (λ n. ap₂ (λ (a b : Bool). a && b) (comes_swap own other i j n) (goes_swap own other i j n)))
 
 -- the net of a pin is once among the nets of the two sides
 has-at : (ns : List ℕ) (i : ℕ) → i < length ns → has (get_or ns i 0) ns ≡ true

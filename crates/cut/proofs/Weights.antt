@@ -40,8 +40,7 @@ weight_none [] = refl
 weight_none (n ∷ ns) = omega (arith, weight_none ns)
 
 -- a test that asks for n first
-pub weight_one : (f : ℕ → Bool) (n : ℕ) (ns : List ℕ) → pin_count n ns ≡ 1
-    → weight_of (λ (k : ℕ). eqb n k && f k) ns ≡ cond (f n) (weight n) 0
+pub weight_one : (f : ℕ → Bool) (n : ℕ) (ns : List ℕ) → pin_count n ns ≡ 1 → weight_of (λ (k : ℕ). eqb n k && f k) ns ≡ cond (f n) (weight n) 0
 weight_one f n ns e =
     let change = weight_change (λ (k : ℕ). false) (λ (k : ℕ). eqb n k && f k) n (λ k d. rw (eqb_sym n k, d)) ns e in
     omega (arith, rw (weight_none ns, eq-eqb n n refl) at change)
@@ -87,8 +86,7 @@ distinct_once n (k ∷ ks) e = go (eqb k n) refl (any (eqb k) ks) refl e (distin
     go false d false q e rest = rw d (rest e)
 
 -- tests that agree in the nets of a list weigh the same over them
-pub weight_members : (f g : ℕ → Bool) (ns : List ℕ) → ((k : ℕ) → has k ns ≡ true → f k ≡ g k)
-    → weight_of f (distinct ns) ≡ weight_of g (distinct ns)
+pub weight_members : (f g : ℕ → Bool) (ns : List ℕ) → ((k : ℕ) → has k ns ≡ true → f k ≡ g k) → weight_of f (distinct ns) ≡ weight_of g (distinct ns)
 weight_members f g [] h = refl
 weight_members f g (n ∷ ns) h =
     go (any (eqb n) ns) (h n (rw (eq-eqb n n refl))) (weight_members f g ns (λ k e. h k (rw (e, or-true))))

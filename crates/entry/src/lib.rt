@@ -1,14 +1,15 @@
 // One word of the table, from the planes before it. `table` has the table.
 #![tactic(auto)]
 
-ghost use Rattle.std.specs.Prelude.{ℕ, ◌+◌, ◌-◌, ◌≤◌, ◌<◌, ◌≡◌, true, ◌&&◌, cond, leb, ltb, eqb};
+ghost use Rattle.std.specs.Prelude.{ℕ, ◌+◌, ◌-◌, ◌≤◌, ◌<◌, ◌≡◌, true, ◌&&◌, cond, leb, ltb, eqb, length};
 ghost use Rattle.arrays.specs.Rules.{range_at, allowed_at, side_number};
+ghost use Rattle.arrays.specs.Loads.{load_rows};
 ghost use Rattle.bits.specs.Bits.{bit_of};
 ghost use Rattle.steps.specs.Stepped.{stepped};
 ghost use Rattle.entry.specs.Entry.{start_part, top_part, bottom_part, both_part, cell};
 ghost use Rattle.entry.specs.Columns.{Tops, Top, Bottom, Pair, Rows, rows_of, Turned, Holds, United};
 
-use arrays::{LoadTable, RuleTable};
+use arrays::{RuleTable, loads_at};
 use bits::{below, bit, both, either, from, single};
 use channel::Side;
 use steps::{reversed, steps};
@@ -27,7 +28,7 @@ pub struct Grid {
 #[derive(Clone, Copy)]
 pub struct Filling<'a> {
     pub rules: &'a RuleTable,
-    pub loads: &'a LoadTable,
+    pub loads: &'a [u8],
     pub grid: Grid,
     pub bound: u8,
 }
@@ -48,10 +49,10 @@ pub struct Columns<'a> {
     by: u64,
     back: u64,
     ghost counts: { (i ≤ 64) × (j ≤ 64) },
-    ghost rows_are: { Rows filling.rules.now.words filling.loads.now.bytes filling.bound i j rows },
-    pub ghost tops: { Top filling.rules.now.words filling.loads.now.bytes filling.bound i j top },
-    ghost bottoms: { Bottom filling.rules.now.words filling.loads.now.bytes filling.bound i j bottom },
-    pub ghost pairs: { Pair filling.rules.now.words filling.loads.now.bytes filling.bound i j pair partner },
+    ghost rows_are: { Rows filling.rules.now.words filling.loads.now filling.bound i j rows },
+    pub ghost tops: { Top filling.rules.now.words filling.loads.now filling.bound i j top },
+    ghost bottoms: { Bottom filling.rules.now.words filling.loads.now filling.bound i j bottom },
+    pub ghost pairs: { Pair filling.rules.now.words filling.loads.now filling.bound i j pair partner },
     ghost steps: { 0 < j → by ≡ range_at filling.rules.now.words 1 j },
     ghost turned: { Turned by back },
 }
@@ -95,10 +96,10 @@ impl<'a> Filling<'a> {
     #[tactic(auto, using(crate::proofs::Table::no_letter, crate::proofs::Table::no_row))]
     fn rows(self, i: usize, j: usize, top: u64, bottom: u64, pair: u64) -> u64
         requires { let f = self in
-            (i ≤ 64) × (j ≤ 64) × Top f.rules.now.words f.loads.now.bytes f.bound i j top
-            × Bottom f.rules.now.words f.loads.now.bytes f.bound i j bottom
-            × Tops f.rules.now.words f.loads.now.bytes f.bound i j 2 pair }
-        ensures { let f = self.entry in Rows f.rules.now.words f.loads.now.bytes f.bound i j result }
+            (i ≤ 64) × (j ≤ 64) × Top f.rules.now.words f.loads.now f.bound i j top
+            × Bottom f.rules.now.words f.loads.now f.bound i j bottom
+            × Tops f.rules.now.words f.loads.now f.bound i j 2 pair }
+        ensures { let f = self.entry in Rows f.rules.now.words f.loads.now f.bound i j result }
     {
         if i + j != 0 && top == 0 && bottom == 0 && pair == 0 {
             return 0;
@@ -108,10 +109,10 @@ impl<'a> Filling<'a> {
 
     // The columns of plane (i, j).
     pub fn columns(self, i: usize, j: usize) -> Columns<'a>
-        requires { (i ≤ 64) × (j ≤ 64) }
+        requires { (i ≤ 64) × (j ≤ 64) × (load_rows (i + 1) ≤ length self.loads.now) }
         ensures { let f = self.entry in (result.filling ≡ f) × (result.i ≡ i) × (result.j ≡ j) }
     {
-        let loads = self.loads.at(i, j);
+        let loads = loads_at(self.loads, i, j);
         let tops = self.last(Side::Top, i);
         let bottoms = self.last(Side::Bottom, j);
         let top = self.within(loads.top, tops);
@@ -166,11 +167,11 @@ impl Columns<'_> {
     #[tactic(auto, using(bits::proofs::Laws::bit_zero))]
     fn top(self, x: usize, above: u64) -> u64
         requires { let s = self in let f = s.filling in
-            (x < 64) × (bit_of s.top x ≡ true → United f.rules.now.words f.loads.now.bytes f.bound s.i s.j x above) }
+            (x < 64) × (bit_of s.top x ≡ true → United f.rules.now.words f.loads.now f.bound s.i s.j x above) }
         ensures { let s = self.entry in let f = s.filling in
             (y : ℕ) → y < 64
-            → bit_of result y ≡ top_part f.rules.now.words f.loads.now.bytes f.bound s.i s.j
-            (cell f.rules.now.words f.loads.now.bytes f.bound (s.i - 1) s.j) x y }
+            → bit_of result y ≡ top_part f.rules.now.words f.loads.now f.bound s.i s.j
+            (cell f.rules.now.words f.loads.now f.bound (s.i - 1) s.j) x y }
     {
         let Columns { i, j, .. } = self;
         if x + i <= j || !bit(self.top, x) {
@@ -183,11 +184,11 @@ impl Columns<'_> {
     #[tactic(auto, using(bits::proofs::Laws::bit_zero))]
     fn bottom(self, x: usize, before: u64) -> u64
         requires { let s = self in let f = s.filling in
-            (x < 64) × (0 < s.j → Holds x (cell f.rules.now.words f.loads.now.bytes f.bound s.i (s.j - 1)) before) }
+            (x < 64) × (0 < s.j → Holds x (cell f.rules.now.words f.loads.now f.bound s.i (s.j - 1)) before) }
         ensures { let s = self.entry in let f = s.filling in
             (y : ℕ) → y < 64
-            → bit_of result y ≡ bottom_part f.rules.now.words f.loads.now.bytes f.bound s.i s.j
-            (cell f.rules.now.words f.loads.now.bytes f.bound s.i (s.j - 1)) x y }
+            → bit_of result y ≡ bottom_part f.rules.now.words f.loads.now f.bound s.i s.j
+            (cell f.rules.now.words f.loads.now f.bound s.i (s.j - 1)) x y }
     {
         let Columns { i, j, .. } = self;
         if self.bottom == 0 {
@@ -209,11 +210,11 @@ impl Columns<'_> {
         requires { let s = self in let f = s.filling in
             (x < 64)
             × (bit_of s.pair x ≡ true → 0 < s.j
-            → United f.rules.now.words f.loads.now.bytes f.bound s.i (s.j - 1) x diagonal) }
+            → United f.rules.now.words f.loads.now f.bound s.i (s.j - 1) x diagonal) }
         ensures { let s = self.entry in let f = s.filling in
             (y : ℕ) → y < 64
-            → bit_of result y ≡ both_part f.rules.now.words f.loads.now.bytes f.bound s.i s.j
-            (cell f.rules.now.words f.loads.now.bytes f.bound (s.i - 1) (s.j - 1)) x y }
+            → bit_of result y ≡ both_part f.rules.now.words f.loads.now f.bound s.i s.j
+            (cell f.rules.now.words f.loads.now f.bound (s.i - 1) (s.j - 1)) x y }
     {
         let Columns { i, j, .. } = self;
         if x + i < j || 64 <= x + i - j {
@@ -233,12 +234,12 @@ impl Columns<'_> {
     #[tactic(auto, using(bits::proofs::Laws::bit_zero))]
     pub fn word(self, x: usize, above: u64, before: u64, diagonal: u64) -> u64
         requires { let s = self in let f = s.filling in
-            (x < 64) × (bit_of s.top x ≡ true → United f.rules.now.words f.loads.now.bytes f.bound s.i s.j x above)
-            × (0 < s.j → Holds x (cell f.rules.now.words f.loads.now.bytes f.bound s.i (s.j - 1)) before)
+            (x < 64) × (bit_of s.top x ≡ true → United f.rules.now.words f.loads.now f.bound s.i s.j x above)
+            × (0 < s.j → Holds x (cell f.rules.now.words f.loads.now f.bound s.i (s.j - 1)) before)
             × (bit_of s.pair x ≡ true → 0 < s.j
-            → United f.rules.now.words f.loads.now.bytes f.bound s.i (s.j - 1) x diagonal) }
+            → United f.rules.now.words f.loads.now f.bound s.i (s.j - 1) x diagonal) }
         ensures { let s = self.entry in let f = s.filling in
-            Holds x (cell f.rules.now.words f.loads.now.bytes f.bound s.i s.j) result }
+            Holds x (cell f.rules.now.words f.loads.now f.bound s.i s.j) result }
     {
         if !bit(self.rows, x) {
             return 0;

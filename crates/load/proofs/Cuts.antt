@@ -1,8 +1,8 @@
 -- What the pins' numbers say of the cuts and the loads, in the steps that the loops take.
 -- Assumes nothing.
-use Rattle.std.proofs.Common.{ℕ, suc, ◌+◌, ◌-◌, ◌≤◌, ◌<◌, ◌≡◌, refl, List, not, cond, ◌&&◌, arith, sym, false, length, get_or, leb, ltb, eqb, add-one, ne_eqb}
+use Rattle.std.proofs.Common.{ℕ, suc, ◌+◌, ◌-◌, ◌≤◌, ◌<◌, ◌≡◌, refl, List, ◌++◌, not, cond, ◌&&◌, arith, sym, false, length, get_or, leb, ltb, eqb, add-one, ne_eqb}
 use Rattle.mark.specs.declared.Mark.{Mark}
-use Rattle.channel.specs.Density.{weight}
+use Rattle.channel.specs.Density.{straight, weight}
 use Rattle.arrays.specs.declared.Loads.{Loads}
 use Rattle.places.specs.declared.PinPlaces.{PinPlaces}
 use Rattle.cut.specs.Counts.{cut, ends_here}
@@ -24,12 +24,11 @@ module _ {m : Mark} {tops bottoms : List ℕ} {top_pins bottom_pins : List PinPl
 
   -- with a bottom pin more
   module _ (i j c : ℕ) (d : PinPlaces) (h : i ≤ length tops) (g : j < length bottom_pins) (is : c ≡ cut tops bottoms i j) where
-    below : cut tops bottoms i (suc j) + cond (leb (get_or bottom_pins j d).opens i) 1 0
-        ≡ c + cond (ltb i (get_or bottom_pins j d).closes) 1 0
+    below : cut tops bottoms i (suc j) + cond (leb (get_or bottom_pins j d).opens i) 1 0 ≡ c + cond (ltb i (get_or bottom_pins j d).closes) 1 0
     below =
         let k : j < length bottoms = omega (arith, listed.bottom.size) in
         rw is
-        (step_bottom tops bottoms _ i j (get_or bottom_pins j d) (listed.bottom.each j d k) k (omega (arith, listed.few.0)))
+        (step_bottom tops bottoms (straight m (tops ++ bottoms)) i j (get_or bottom_pins j d) (listed.bottom.each j d k) k (omega (arith, listed.few.0)))
 
     pub room_bottom : (c ≤ 128) × (cond (leb (get_or bottom_pins j d).opens i) 1 0 ≤ c + cond (ltb i (get_or bottom_pins j d).closes) 1 0)
     room_bottom = (most i j c is, omega (arith, below))
@@ -44,7 +43,7 @@ module _ {m : Mark} {tops bottoms : List ℕ} {top_pins bottom_pins : List PinPl
     right : cut tops bottoms (suc i) 0 + cond (leb (get_or top_pins i d).opens 0) 1 0 ≡ c + cond (ltb 0 (get_or top_pins i d).closes) 1 0
     right =
         let k : i < length tops = omega (arith, listed.top.size) in
-        rw is (step_top tops bottoms _ i 0 (get_or top_pins i d) (listed.top.each i d k) k (omega arith))
+        rw is (step_top tops bottoms (straight m (tops ++ bottoms)) i 0 (get_or top_pins i d) (listed.top.each i d k) k (omega arith))
 
     pub room_top : (c ≤ 128) × (cond (leb (get_or top_pins i d).opens 0) 1 0 ≤ c + cond (ltb 0 (get_or top_pins i d).closes) 1 0)
     room_top = (most i 0 c is, omega (arith, right))
@@ -61,9 +60,7 @@ module _ {m : Mark} {tops bottoms : List ℕ} {top_pins bottom_pins : List PinPl
       → CutLoads m tops bottoms 0 (j + 1) (record { top = 0; bottom = b; both = 0 })
   first_loads j c b d g is e = record {
     top = refl;
-    bottom =
-        rw (past j, e, is, add-one j)
-        (sym (load_bottom m tops bottoms 0 j (get_or bottom_pins j d) (listed.bottom.each j d g) g (omega arith)));
+    bottom = rw (past j, e, is, add-one j) (sym (load_bottom m tops bottoms 0 j (get_or bottom_pins j d) (listed.bottom.each j d g) g (omega arith)));
     both = refl;
   }
 
@@ -93,12 +90,8 @@ module _ {m : Mark} {tops bottoms : List ℕ} {top_pins bottom_pins : List PinPl
       let few : i < 254 = omega (arith, listed.few.0) in
       let less : j < 254 = omega (arith, listed.few.1) in
       record {
-        top =
-            rw (past i, x, is, add-one i, add-one j)
-            (sym (load_top m tops bottoms i (suc j) t (listed.top.each i d h) h (omega arith)));
-        bottom =
-            rw (past j, y, is, add-one i, add-one j)
-            (sym (load_bottom m tops bottoms (suc i) j b (listed.bottom.each j e g) g (omega arith)));
+        top = rw (past i, x, is, add-one i, add-one j) (sym (load_top m tops bottoms i (suc j) t (listed.top.each i d h) h (omega arith)));
+        bottom = rw (past j, y, is, add-one i, add-one j) (sym (load_bottom m tops bottoms (suc i) j b (listed.bottom.each j e g) g (omega arith)));
         both =
             rw (past i, past j, z, back i, back j, is, add-one i, add-one j)
             (sym (load_both m tops bottoms i j t b (listed.top.each i d h) (listed.bottom.each j e g) h g few less));

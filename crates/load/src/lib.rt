@@ -6,10 +6,11 @@
 ghost use Rattle.std.specs.Prelude.{◌≡◌, ℕ, ◌+◌, ◌≤◌, ◌<◌, length, take, drop};
 ghost use Rattle.format.specs.Parts.{terminals_in};
 ghost use Rattle.cut.specs.Counts.{cut};
+ghost use Rattle.arrays.specs.Loads.{load_rows};
 ghost use Rattle.load.specs.Cuts.{CutLoads, LoadsRead, Written, Listed};
 ghost use Rattle.nets.specs.Nets.{nets_in};
 
-use arrays::{LoadTable, Loads};
+use arrays::{Loads, put_loads};
 use arrayvec::ArrayVec;
 use cut::{first_cut, loads_of, lone_load, next_cut};
 use mark::Mark;
@@ -29,20 +30,21 @@ struct Pins<'a> {
 
 impl Pins<'_> {
     // Puts the loads of the cut (i, j) into the table.
-    fn write_cell(self, i: usize, j: usize, l: Loads, loads: &mut LoadTable)
+    fn write_cell(self, i: usize, j: usize, l: Loads, loads: &mut [u8])
         requires { let s = self in
-            (i ≤ length s.tops.now) × (j ≤ length s.bottoms.now) × CutLoads s.mark s.tops.now s.bottoms.now i j l }
+            (i ≤ length s.tops.now) × (j ≤ length s.bottoms.now) × CutLoads s.mark s.tops.now s.bottoms.now i j l
+            × (load_rows (length s.tops.now + 1) ≤ length loads.old) }
         ensures { let s = self.entry in
-            Written s.mark s.tops.now s.bottoms.now loads.old.bytes loads.new.bytes (λ (x y : ℕ). (x ≡ i) × (y ≡ j)) }
+            Written s.mark s.tops.now s.bottoms.now loads.old loads.new (λ (x y : ℕ). (x ≡ i) × (y ≡ j)) }
     {
-        loads.put(i, j, l);
+        put_loads(loads, i, j, l);
     }
 
     // Puts the loads of all cuts with no top pin into the table, from the cut left of all pins.
-    fn write_first(self, first: u8, loads: &mut LoadTable)
-        requires { first ≡ cut self.tops.now self.bottoms.now 0 0 }
+    fn write_first(self, first: u8, loads: &mut [u8])
+        requires { (first ≡ cut self.tops.now self.bottoms.now 0 0) × (load_rows (length self.tops.now + 1) ≤ length loads.old) }
         ensures { let s = self.entry in
-            Written s.mark s.tops.now s.bottoms.now loads.old.bytes loads.new.bytes
+            Written s.mark s.tops.now s.bottoms.now loads.old loads.new
             (λ (x y : ℕ). (x ≡ 0) × (y < length s.bottoms.now + 1)) }
     {
         self.write_cell(0, 0, Loads::default(), loads);
@@ -60,10 +62,11 @@ impl Pins<'_> {
     }
 
     // Puts the loads of all cuts with the pin at index i as their last top pin into the table, from the cut with no bottom pin.
-    fn write_row(self, i: usize, first: u8, loads: &mut LoadTable)
-        requires { let s = self in (i < length s.tops.now) × (first ≡ cut s.tops.now s.bottoms.now (i + 1) 0) }
+    fn write_row(self, i: usize, first: u8, loads: &mut [u8])
+        requires { let s = self in (i < length s.tops.now) × (first ≡ cut s.tops.now s.bottoms.now (i + 1) 0)
+            × (load_rows (length s.tops.now + 1) ≤ length loads.old) }
         ensures { let s = self.entry in
-            Written s.mark s.tops.now s.bottoms.now loads.old.bytes loads.new.bytes
+            Written s.mark s.tops.now s.bottoms.now loads.old loads.new
             (λ (x y : ℕ). (x ≡ i + 1) × (y < length s.bottoms.now + 1)) }
     {
         let top = self.top_pins[i];
@@ -82,9 +85,9 @@ impl Pins<'_> {
     }
 
     // Puts the loads of all cuts into the table, from the cut left of all pins.
-    fn write_table(self, first: u8, loads: &mut LoadTable)
-        requires { first ≡ cut self.tops.now self.bottoms.now 0 0 }
-        ensures { let s = self.entry in LoadsRead s.mark s.tops.now s.bottoms.now loads.old.bytes loads.new.bytes }
+    fn write_table(self, first: u8, loads: &mut [u8])
+        requires { (first ≡ cut self.tops.now self.bottoms.now 0 0) × (load_rows (length self.tops.now + 1) ≤ length loads.old) }
+        ensures { let s = self.entry in LoadsRead s.mark s.tops.now s.bottoms.now loads.old loads.new }
     {
         self.write_first(first, loads);
         let mut cut = first;
@@ -96,9 +99,9 @@ impl Pins<'_> {
 }
 
 // The table of the nets of two sides, of which the first p are the top's.
-fn tabulate(mark: Mark, nets: &[u16], p: usize, loads: &mut LoadTable)
-    requires { (p ≤ 64) × (p ≤ length nets.now) × (length nets.now ≤ p + 64) }
-    ensures { LoadsRead mark (take p nets.now) (drop p nets.now) loads.old.bytes loads.new.bytes }
+fn tabulate(mark: Mark, nets: &[u16], p: usize, loads: &mut [u8])
+    requires { (p ≤ 64) × (p ≤ length nets.now) × (length nets.now ≤ p + 64) × (load_rows (p + 1) ≤ length loads.old) }
+    ensures { LoadsRead mark (take p nets.now) (drop p nets.now) loads.old loads.new }
 {
     let tops = &nets[..p];
     let bottoms = &nets[p..];
@@ -115,9 +118,10 @@ fn tabulate(mark: Mark, nets: &[u16], p: usize, loads: &mut LoadTable)
 }
 
 // The loads of all cuts of two sections of a sheet with this mark, once per search.
-pub fn read_loads(mark: Mark, top: &[u8], bottom: &[u8], loads: &mut LoadTable)
-    requires { (length (terminals_in top.now) ≤ 64) × (length (terminals_in bottom.now) ≤ 64) }
-    ensures { LoadsRead mark (nets_in top.now) (nets_in bottom.now) loads.old.bytes loads.new.bytes }
+pub fn read_loads(mark: Mark, top: &[u8], bottom: &[u8], loads: &mut [u8])
+    requires { (length (terminals_in top.now) ≤ 64) × (length (terminals_in bottom.now) ≤ 64)
+        × (load_rows (length (terminals_in top.now) + 1) ≤ length loads.old) }
+    ensures { LoadsRead mark (nets_in top.now) (nets_in bottom.now) loads.old loads.new }
 {
     let mut nets: ArrayVec<u16, 128> = ArrayVec::new();
     for net in Nets::new(top, bottom) {

@@ -1,4 +1,4 @@
--- The two numbers of a pin, from what its own side has before and behind it and from its net's ends on the other side; and their list.
+-- The two numbers of a pin, from what its own side has before and behind it and from its net's ends on the other side; and the list of them.
 -- Assumes nothing.
 use Rattle.std.proofs.Common.{ℕ, suc, ◌+◌, ◌<◌, ◌≡◌, refl, List, [], ◌∷◌, ◌++◌, Bool, true, false, cond, ◌||◌, arith, length, get_or, take, drop, leb, ltb, eqb, le-leb, lt-ltb, ltb-true, ltb-false, add-one}
 use Rattle.std.proofs.Math.Bool.{or-true}

@@ -44,26 +44,16 @@ pub record Seen (n : ℕ) (side : List ℕ) (k first last : ℕ) : Type 0 where
 
 module _ (n : ℕ) (side : List ℕ) where
   pub seen_none : Seen n side 0 (left_start (kind_of n)) (right_start (kind_of n))
-  seen_none = record {
-    left = λ c h. rw (left_start_lem (kind_of n) c h, sub-zero);
-    right = λ c h. rw (right_start_lem (kind_of n) c h, sub-zero);
-  }
+  seen_none = record { left = λ c h. rw (left_start_lem (kind_of n) c h, sub-zero); right = λ c h. rw (right_start_lem (kind_of n) c h, sub-zero) }
 
   -- with a pin more of the net, or of another one
   module _ (k first last : ℕ) (b : Bool) (seen : Seen n side k first last) where
     pub seen_more : k < length side → eqb (get_or side k 0) n ≡ b
         → Seen n side (k + 1) (min first (cond b (k + 1) 255)) (max last (cond b (k + 1) 0))
-    seen_more h e =
-        let here = get_or side k 0 in
-        let behind = drop (suc k) side in
-        record {
-          left = λ c l.
-              rw (first_more b first (k + 1) c l, or_assoc, add-one, ← e, ← has-take n here behind k c, ← drop-cons side k 0 h)
-              (seen.left c l);
-          right = λ c l.
-              rw (last_more b last (k + 1) c, or_assoc, add-one, ← e, ← has-drop n here behind k c, ← drop-cons side k 0 h)
-              (seen.right c l);
-        }
+    seen_more h e = record {
+      left = λ c l. rw (first_more b first (k + 1) c l, or_assoc, add-one, ← e, ← has-take n (get_or side k 0) (drop (suc k) side) k c, ← drop-cons side k 0 h) (seen.left c l);
+      right = λ c l. rw (last_more b last (k + 1) c, or_assoc, add-one, ← e, ← has-drop n (get_or side k 0) (drop (suc k) side) k c, ← drop-cons side k 0 h) (seen.right c l);
+    }
 
     pub seen_all : length side ≤ k → EndsOf n side first last
     seen_all h = record {

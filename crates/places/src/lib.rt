@@ -18,8 +18,8 @@ pub struct Ends {
     pub last: u8,
 }
 
-// A pin's net, and where else that net is. With n pins of the other side at or left of the pin, it has come before the pin if opens ≤ n,
-// and goes on behind it if n < closes. Whether it is a straight wire that counts where its two pins share a column.
+// A pin's net, and where else that net is. With n pins of the other side at or left of the pin, it has come before the pin if opens ≤ n, and
+// goes on behind it if n < closes. Whether it is a straight wire that counts where its two pins share a column.
 #[derive(Clone, Copy, Default)]
 pub struct PinPlaces {
     pub net: u16,

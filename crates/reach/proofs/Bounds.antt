@@ -1,13 +1,12 @@
--- Where the last pins can stand: never left of their number, and in no fewer places under a greater bound.
+-- Where the last pins can stand: never left of their number.
 -- Assumes nothing.
-use Rattle.std.proofs.Common.{◌≡◌, ℕ, suc, ◌+◌, ◌≤◌, Bool, true, false, length, le_trans, arith}
+use Rattle.std.proofs.Common.{◌≡◌, ℕ, suc, ◌+◌, ◌≤◌, Bool, true, false, length, arith}
 use Rattle.channel.specs.Below.{any_below}
 use Rattle.channel.proofs.Below.{any_below-from, any_below_to}
 use Rattle.channel.specs.Sheet.{Sheet}
 use Rattle.channel.specs.Word.{has_top, has_bottom}
 use Rattle.reach.specs.Reach.{reach, feasible}
-use Rattle.reach.proofs.Reaches.{reach-none}
-use Rattle.reach.proofs.Rightmost.{more, last_in, step-reach, reach_induction}
+use Rattle.reach.proofs.Rightmost.{more, last_in, reach_induction}
 
 -- i pins of a side, the last in u: each has a column of its own, and without pins u is 0
 pub record Held (i u : ℕ) : Type 0 where
@@ -28,14 +27,6 @@ reach-held s d i j u v r =
   where
     start : Held 0 0
     start = record { room = omega arith; none = λ e. e }
-
--- what can be placed under a bound can be placed under a greater one
-pub reach_mono : (s : Sheet) (d e : ℕ) → d ≤ e → (i j u v : ℕ) → reach s d i j u v ≡ true → reach s e i j u v ≡ true
-reach_mono s d e h i j u v r =
-    reach_induction s d (λ i j u v. reach s e i j u v ≡ true) (reach-none s e 0 0)
-    (λ c a k l t b o p. step-reach s e c a k l t b
-    (record { top = o.top; bottom = o.bottom; within = λ q. le_trans (o.within q) h; rest = p }))
-    (u + v) i j u v (omega arith) (omega arith) r
 
 module _ (s : Sheet) (d : ℕ) where
   -- all pins placed, the last of them in u and v
@@ -58,9 +49,3 @@ module _ (s : Sheet) (d : ℕ) where
       let (u, hu, f) = any_below_to (suc s.columns) (λ u. any_below (suc s.columns) (placed u)) e in
       let (v, hv, r) = any_below_to (suc s.columns) (placed u) f in
       (u, v, omega arith, omega arith, r)
-
--- all pins can be placed under a greater bound too
-pub feasible_mono : (s : Sheet) (d e : ℕ) → d ≤ e → feasible s d ≡ true → feasible s e ≡ true
-feasible_mono s d e h f =
-    let (u, v, hu, hv, r) = feasible_some s d f in
-    feasible-from s e u v hu hv (reach_mono s d e h (length s.top) (length s.bottom) u v r)

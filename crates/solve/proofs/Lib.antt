@@ -1,1 +1,3 @@
+pub mod Measures
 pub mod Solving
+pub mod Finding

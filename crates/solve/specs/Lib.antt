@@ -1,2 +1,3 @@
 pub mod Buffers
 pub mod Solved
+pub mod Placed

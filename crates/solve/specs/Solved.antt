@@ -11,17 +11,15 @@ use Rattle.sheet.specs.Sections.{sheet_held}
 use Rattle.pass.specs.declared.plan.Plan.{Plan}
 use Rattle.solve.specs.Buffers.{with_columns, cleared}
 
--- the measures of the table for p top and q bottom pins in l columns
+-- the rows of a plane: the columns in which the last top pin can stand, or one where there is none
+abbrev pub rows_of : ℕ → ℕ → ℕ
+rows_of l p = cond (eqb p 0) 1 (l - p + 1)
+
+-- the measures of the table for p top and q bottom pins in l columns: its planes stand one behind the other, in four cells a row
 abbrev pub plan_of : ℕ → ℕ → ℕ → Plan
 plan_of l p q =
     record {
-      grid =
-          record {
-            rows = cond (eqb p 0) 1 (l - p + 1);
-            across = q + 1;
-            size = (l + 1) * (l + 1);
-            stride = (q + 1) * ((l + 1) * (l + 1));
-          };
+      grid = record { rows = rows_of l p; across = q + 1; size = 4 * rows_of l p; stride = (q + 1) * (4 * rows_of l p) };
       p = p;
       q = q;
       l = l;

@@ -2,12 +2,13 @@
 ghost use Rattle.std.specs.Prelude.{◌+◌, ◌-◌, ◌*◌, ◌≤◌, ◌<◌, ◌≡◌, true, length, leb};
 ghost use Rattle.table.specs.Planes.{Measures, Earlier, Filled, AsksTable, base_of};
 ghost use Rattle.table.specs.United.{Alone, Paired};
-ghost use Rattle.arrays.specs.Loads.{load_at};
+ghost use Rattle.arrays.specs.Loads.{load_rows, load_at};
 ghost use Rattle.bits.specs.Bits.{bit_of};
 ghost use Rattle.entry.specs.Entry.{cell};
 ghost use Rattle.entry.specs.Columns.{Holds, United};
 
 use crate::query::Plane;
+use arrays::loads_at;
 use cells::{read_word, write_word};
 use channel::Side;
 use entry::{Columns, Filling};
@@ -18,25 +19,26 @@ use rows::unions;
 
 // Whether the unions of the plane of (i - 1, j) are used: for a top pin alone, or for a pair one bottom pin later.
 fn used(filling: Filling, i: usize, j: usize) -> bool
-    requires { let f = filling in Measures f.grid × (i ≤ 64) × (j < f.grid.across) }
+    requires { let f = filling in Measures f.grid × (i ≤ 64) × (j < f.grid.across) × (load_rows (i + 1) ≤ length f.loads.now) }
     ensures { let f = filling.entry in
-        (leb (load_at f.loads.now.bytes i j 0) f.bound ≡ true → result ≡ true)
-        × (j + 1 < f.grid.across → leb (load_at f.loads.now.bytes i (j + 1) 2) f.bound ≡ true → result ≡ true) }
+        (leb (load_at f.loads.now i j 0) f.bound ≡ true → result ≡ true)
+        × (j + 1 < f.grid.across → leb (load_at f.loads.now i (j + 1) 2) f.bound ≡ true → result ≡ true) }
 {
-    if filling.loads.at(i, j).top <= filling.bound {
+    if loads_at(filling.loads, i, j).top <= filling.bound {
         return true;
     }
-    j + 1 < filling.grid.across && filling.loads.at(i, j + 1).both <= filling.bound
+    j + 1 < filling.grid.across && loads_at(filling.loads, i, j + 1).both <= filling.bound
 }
 
 // Those unions, by the steps of the i-th top pin.
 fn united(work: &[u16], filling: Filling, i: usize, j: usize) -> [u64; 64]
     requires { let f = filling in
         Measures f.grid × (i ≤ 64) × (j < f.grid.across) × (base_of f.grid i j + f.grid.size ≤ length work.now)
-        × Earlier f.rules.now.words f.loads.now.bytes f.bound f.grid i j work.now }
+        × Earlier f.rules.now.words f.loads.now f.bound f.grid i j work.now
+        × (load_rows (i + 1) ≤ length f.loads.now) }
     ensures { let f = filling.entry in
-        Alone f.rules.now.words f.loads.now.bytes f.bound f.grid i j result
-        × (j + 1 < f.grid.across → Paired f.rules.now.words f.loads.now.bytes f.bound f.grid i (j + 1) result) }
+        Alone f.rules.now.words f.loads.now f.bound f.grid i j result
+        × (j + 1 < f.grid.across → Paired f.rules.now.words f.loads.now f.bound f.grid i (j + 1) result) }
 {
     if i == 0 || !used(filling, i, j) {
         return [0; 64];
@@ -56,12 +58,12 @@ fn row(work: &[u16], columns: Columns, at: usize, x: usize, above: u64, diagonal
     requires { let s = columns in let f = s.filling in
         Measures f.grid × (x < f.grid.rows) × (s.j < f.grid.across) × (at ≡ base_of f.grid s.i s.j)
         × (at + f.grid.size ≤ length work.now)
-        × Earlier f.rules.now.words f.loads.now.bytes f.bound f.grid s.i s.j work.now
-        × (bit_of s.top x ≡ true → United f.rules.now.words f.loads.now.bytes f.bound s.i s.j x above)
+        × Earlier f.rules.now.words f.loads.now f.bound f.grid s.i s.j work.now
+        × (bit_of s.top x ≡ true → United f.rules.now.words f.loads.now f.bound s.i s.j x above)
         × (bit_of s.pair x ≡ true → 0 < s.j
-        → United f.rules.now.words f.loads.now.bytes f.bound s.i (s.j - 1) x diagonal) }
+        → United f.rules.now.words f.loads.now f.bound s.i (s.j - 1) x diagonal) }
     ensures { let s = columns.entry in let f = s.filling in
-        Holds x (cell f.rules.now.words f.loads.now.bytes f.bound s.i s.j) result }
+        Holds x (cell f.rules.now.words f.loads.now f.bound s.i s.j) result }
 {
     let before = if columns.j == 0 {
         0
@@ -82,11 +84,12 @@ fn fill_plane(
 )
     requires { let f = filling in
         Measures f.grid × (i ≤ 64) × (j < f.grid.across) × (base_of f.grid i j + f.grid.size ≤ length work.old)
-        × Earlier f.rules.now.words f.loads.now.bytes f.bound f.grid i j work.old
-        × Alone f.rules.now.words f.loads.now.bytes f.bound f.grid i j above.now
-        × (0 < j → Paired f.rules.now.words f.loads.now.bytes f.bound f.grid i j diagonal.now) }
+        × Earlier f.rules.now.words f.loads.now f.bound f.grid i j work.old
+        × Alone f.rules.now.words f.loads.now f.bound f.grid i j above.now
+        × (0 < j → Paired f.rules.now.words f.loads.now f.bound f.grid i j diagonal.now)
+        × (load_rows (i + 1) ≤ length f.loads.now) }
     ensures { let f = filling.entry in
-        Filled f.rules.now.words f.loads.now.bytes f.bound f.grid i (j + 1) (base_of f.grid i (j + 1)) work.old work.new }
+        Filled f.rules.now.words f.loads.now f.bound f.grid i (j + 1) (base_of f.grid i (j + 1)) work.old work.new }
 {
     let plane = Plane {
         work,
@@ -106,9 +109,10 @@ fn fill_plane(
 fn fill_row(work: &mut [u16], filling: Filling, i: usize)
     requires { let f = filling in
         Measures f.grid × (i ≤ 64) × ((i + 1) * f.grid.stride ≤ length work.old)
-        × Earlier f.rules.now.words f.loads.now.bytes f.bound f.grid i 0 work.old }
+        × Earlier f.rules.now.words f.loads.now f.bound f.grid i 0 work.old
+        × (load_rows (i + 1) ≤ length f.loads.now) }
     ensures { let f = filling.entry in
-        Filled f.rules.now.words f.loads.now.bytes f.bound f.grid (i + 1) 0 ((i + 1) * f.grid.stride) work.old work.new }
+        Filled f.rules.now.words f.loads.now f.bound f.grid (i + 1) 0 ((i + 1) * f.grid.stride) work.old work.new }
 {
     let mut diagonal: [u64; 64] = [0; 64];
     for j in 0..filling.grid.across {
@@ -120,9 +124,9 @@ fn fill_row(work: &mut [u16], filling: Filling, i: usize)
 
 // Fills the planes of 0 to p. A cell that is in no row of theirs stays as it was.
 pub fn fill(work: &mut [u16], filling: Filling, p: usize)
-    requires { AsksTable work.old filling.grid p }
+    requires { AsksTable work.old filling.grid p × (load_rows (p + 1) ≤ length filling.loads.now) }
     ensures { let f = filling.entry in
-        Filled f.rules.now.words f.loads.now.bytes f.bound f.grid (p + 1) 0 ((p + 1) * f.grid.stride) work.old work.new }
+        Filled f.rules.now.words f.loads.now f.bound f.grid (p + 1) 0 ((p + 1) * f.grid.stride) work.old work.new }
 {
     // not `0..=p`, of which the last turn would have to be shown once more
     for i in 0..p + 1 {

@@ -1,6 +1,6 @@
 -- Laws of the walk's choices: what each question to the table says.
 -- Assumes nothing.
-use Rattle.std.proofs.Common.{ℕ, zero, suc, ◌-◌, ◌≤◌, ◌<◌, min, ◌≡◌, refl, sym, ap, ◌∙◌, List, Bool, true, false, cond, ◌&&◌, arith, leb, ltb, eqb, le-leb, lt-ltb}
+use Rattle.std.proofs.Common.{ℕ, zero, suc, ◌-◌, ◌≤◌, ◌<◌, min, ◌≡◌, refl, sym, ap, ◌∙◌, List, Bool, true, false, ◌&&◌, arith, leb, ltb, eqb, le-leb, lt-ltb}
 use Rattle.std.proofs.Math.Bool.{or-false}
 use Rattle.std.proofs.Math.Dec.{leb-zero}
 use Rattle.std.proofs.lemmas.Bool.{lt-leb}
@@ -10,11 +10,9 @@ use Rattle.bits.specs.Bits.{bit_of}
 use Rattle.bits.proofs.Laws.{bit_zero, word_cong}
 use Rattle.table.specs.Planes.{held_at, meeting}
 use Rattle.letters.specs.declared.Progress.{Progress}
-use Rattle.letters.specs.Letters.{has_top_pin, has_bottom_pin, behind, written}
 use Rattle.walk.specs.declared.Walk.{Walk}
 use Rattle.walk.specs.Walk.{steps_to, stands_at, lefts, row_fits, row_meets, some_left, some_here, empty_meets, top_meets}
-use Rattle.walk.specs.Walk.{empty_fits, top_fits, bottom_fits, choice_in, walk_columns}
-use Rattle.walk.specs.Walking.{AsksStep}
+use Rattle.walk.specs.Walk.{empty_fits, top_fits, bottom_fits, choice_in}
 
 -- the questions of a walk, from where it has come
 module _ (v : Walk) (m : Progress) where
@@ -113,47 +111,3 @@ module _ (v : Walk) (m : Progress) where
     pub chose_both : empty w ≡ false → top w ≡ false → bottom ≡ false → 3 ≡ choice
     unfolding choice_in
     chose_both e t b = rw (empty_says e, top_says t, b)
-
--- the walk goes on with what it needs
-pub walks_on : (p q letter : ℕ) (m : Progress) → 0 < m.c → AsksStep p q m → AsksStep p q (behind letter m)
-walks_on p q letter m some_left w =
-    record {
-      c = omega (arith, w.c);
-      i = fewer (has_top_pin letter m.i) m.i w.i;
-      j = fewer (has_bottom_pin letter m.j) m.j w.j;
-      top = λ h. placed (has_top_pin letter m.i) m.i p m.top w.top h;
-      bottom = λ h. placed (has_bottom_pin letter m.j) m.j q m.bottom w.bottom h;
-    }
-  where
-    fewer : (t : Bool) (n : ℕ) {k : ℕ} → n ≤ k → cond t (n - 1) n ≤ k
-    fewer true n h = omega arith
-    fewer false n h = h
-
-    placed :
-        (t : Bool) (n k at : ℕ) → (n < k → m.c < at) → cond t (n - 1) n < k → m.c - 1 < cond t m.c at
-    placed true n k at h l = omega (arith, some_left)
-    placed false n k at h l = omega (arith, h l)
-
--- one letter of the walk
-module _ (v : Walk) where
-  abbrev pub columns_from : ℕ → Progress → List ℕ → List ℕ
-  columns_from = walk_columns v.work.now v.rules.now.words v.grid v.p v.q
-
-  letter_more :
-      (left letter : ℕ) (m m' : Progress) (columns columns' : List ℕ) → 0 < left → letter ≡ choice v m → m' ≡ behind letter m
-      → columns' ≡ written v.p letter m columns → columns_from (left - 1) m' columns' ≡ columns_from left m columns
-  unfolding walk_columns
-  letter_more zero letter m m' columns columns' h e em ec = elim h [ ]
-  letter_more (suc left) letter m m' columns columns' h e em ec =
-      let less : suc left - 1 ≡ left = omega arith in
-      rw (em, ec, e, less)
-
-  pub walk_more :
-      (letter : ℕ) (m m' : Progress) (columns columns' : List ℕ) → 0 < m.c → letter ≡ choice v m → m' ≡ behind letter m
-      → columns' ≡ written v.p letter m columns → columns_from m'.c m' columns' ≡ columns_from m.c m columns
-  walk_more letter m m' columns columns' h e em ec = rw em (letter_more m.c letter m (behind letter m) columns columns' h e refl ec)
-
-  pub walk_none : (left : ℕ) (m : Progress) (columns : List ℕ) → left ≤ 0 → columns ≡ columns_from left m columns
-  unfolding walk_columns
-  walk_none zero m columns h = refl
-  walk_none (suc left) m columns h = absurd (omega arith)

@@ -1,14 +1,13 @@
 -- The walk from column L down over a filled table, in the table's own numbers: at each column the smallest letter after which the
--- rest can still be placed, and the columns that it writes.
+-- rest can still be placed.
 -- Assumes nothing.
-use Rattle.std.specs.Prelude.{ℕ, zero, suc, ◌+◌, ◌-◌, min, List, Bool, cond, ◌&&◌, leb, ltb, eqb}
+use Rattle.std.specs.Prelude.{ℕ, suc, ◌+◌, ◌-◌, min, List, Bool, cond, ◌&&◌, leb, ltb, eqb}
 use Rattle.channel.specs.Below.{any_below}
 use Rattle.bits.specs.Bits.{bit_of, in_word}
 use Rattle.entry.specs.declared.Grid.{Grid}
 use Rattle.arrays.specs.Rules.{range_at}
 use Rattle.table.specs.Planes.{held_at}
 use Rattle.letters.specs.declared.Progress.{Progress}
-use Rattle.letters.specs.Letters.{behind, written}
 
 -- every number below 64
 abbrev pub ones : ℕ
@@ -71,10 +70,3 @@ module _ (work rules : List ℕ) (g : Grid) (p q : ℕ) (m : Progress) where
   -- 0 empty, 1 top pin only, 2 bottom pin only, 3 both
   unfoldable pub choice_in : ℕ
   choice_in = cond empty_fits 0 (cond top_fits 1 (cond bottom_fits 2 3))
-
--- the whole walk over the c columns that are left
-unfoldable pub walk_columns : List ℕ → List ℕ → Grid → ℕ → ℕ → ℕ → Progress → List ℕ → List ℕ
-walk_columns work rules g p q zero m columns = columns
-walk_columns work rules g p q (suc c) m columns =
-    let letter : ℕ = choice_in work rules g p q m in
-    walk_columns work rules g p q c (behind letter m) (written p letter m columns)

@@ -5,9 +5,10 @@ ghost use Rattle.std.specs.Prelude.{ℕ, ◌+◌, ◌-◌, ◌≤◌, ◌<◌, �
 ghost use Rattle.arrays.specs.Rules.{pins, side_number};
 ghost use Rattle.bits.specs.Bits.{bit_of};
 ghost use Rattle.letters.specs.Letters.{letter_number};
-ghost use Rattle.walk.specs.Walk.{steps_to, stands_at, lefts, empty_meets, top_meets, bottom_fits, choice_in, walk_columns};
+ghost use Rattle.walk.specs.Walk.{steps_to, stands_at, lefts, empty_meets, top_meets, bottom_fits, choice_in};
+ghost use Rattle.letters.specs.Walking.{AsksStep, whole_walk};
 ghost use Rattle.table.specs.Planes.{AsksTable, meeting};
-ghost use Rattle.walk.specs.Walking.{AsksWalk, AsksStep};
+ghost use Rattle.walk.specs.Walking.{AsksWalk};
 
 use arrays::RuleTable;
 use bits::single;
@@ -151,11 +152,11 @@ impl Step<'_> {
 
 impl Walk<'_> {
     // Writes the columns of the walk over the table.
-    #[tactic(auto, using(crate::proofs::Choices::walk_none))]
+    #[tactic(auto, using(letters::proofs::Walking::walk_none))]
     pub fn walk(self, l: usize, columns: &mut [u8])
         requires { (l ≤ 64) × (self.p + self.q ≤ length columns.old) }
-        ensures { let w = self.entry in columns.new ≡ walk_columns w.work.now w.rules.now.words w.grid w.p w.q l
-            (record { c = l; i = w.p; j = w.q; top = 0; bottom = 0 }) columns.old }
+        ensures { let w = self.entry in
+            columns.new ≡ whole_walk (choice_in w.work.now w.rules.now.words w.grid w.p w.q) l w.p w.q columns.old }
     {
         let mut m = Progress {
             c: l,

@@ -9,4 +9,4 @@ loop-j-preserved c =
     let a = c.args in
     let l = c.loop-j in
     rw c.lowest-before.ensures
-    (row_more a.loads.now.bytes a.i a.row.now l.j l.before l.diagonal l.row c.requires.2 (omega arith) l.invariant)
+    (row_more a.loads.now a.i a.row.now l.j l.before l.diagonal l.row c.requires.2 (omega arith) l.invariant)

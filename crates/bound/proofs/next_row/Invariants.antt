@@ -5,4 +5,4 @@ use Rattle.bound.proofs.LowerBound.{Row}
 use Rattle.bound.proofs.next_row.Given as goal
 
 abbrev pub invariant-loop-j : goal.invariant-loop-j
-invariant-loop-j l = Row l.loads.bytes l.i l.j l.initial.row l.row l.before l.diagonal
+invariant-loop-j l = Row l.loads l.i l.j l.initial.row l.row l.before l.diagonal

@@ -25,8 +25,8 @@ returns-then-not-meets c = λ y h.
     let at = c.args.x + s.i - s.j in
     bit_zero y
     ∙ sym (and-false (eqb y at))
-    ∙ pair_bits f.rules.now.words f.loads.now.bytes f.bound s.i s.j c.args.x y at s.pair s.partner s.by c.args.diagonal
-    (cell f.rules.now.words f.loads.now.bytes f.bound (s.i - 1) (s.j - 1)) false (omega arith) s.pairs s.steps
+    ∙ pair_bits f.rules.now.words f.loads.now f.bound s.i s.j c.args.x y at s.pair s.partner s.by c.args.diagonal
+    (cell f.rules.now.words f.loads.now f.bound (s.i - 1) (s.j - 1)) false (omega arith) s.pairs s.steps
     (λ p q. c.requires.1 in_top q p) (omega arith) in_top in_bottom (sym c.if-not-meets.true ∙ c.meets.ensures s.by s.turned)
 
 pub returns : goal.returns
@@ -38,6 +38,6 @@ returns c = λ y h.
     let at = c.args.x + s.i - s.j in
     c.single.ensures y h
     ∙ sym (and-true (eqb y at))
-    ∙ pair_bits f.rules.now.words f.loads.now.bytes f.bound s.i s.j c.args.x y at s.pair s.partner s.by c.args.diagonal
-    (cell f.rules.now.words f.loads.now.bytes f.bound (s.i - 1) (s.j - 1)) true (omega arith) s.pairs s.steps
+    ∙ pair_bits f.rules.now.words f.loads.now f.bound s.i s.j c.args.x y at s.pair s.partner s.by c.args.diagonal
+    (cell f.rules.now.words f.loads.now f.bound (s.i - 1) (s.j - 1)) true (omega arith) s.pairs s.steps
     (λ p q. c.requires.1 in_top q p) (omega arith) in_top in_bottom (sym c.if-not-meets.false ∙ c.meets.ensures s.by s.turned)

@@ -19,4 +19,4 @@ returns c = λ y h.
     (c.either-2.ensures y
     ∙ ap₂ (λ (s t : Bool). s || t) (c.top-one.ensures y h)
     (c.either.ensures y ∙ ap₂ (λ (s t : Bool). s || t) (c.bottom-other.ensures y h) (c.pair-two.ensures y h)))
-    ∙ entry-cell f.rules.now.words f.loads.now.bytes f.bound s.i s.j c.args.x y
+    ∙ entry-cell f.rules.now.words f.loads.now f.bound s.i s.j c.args.x y

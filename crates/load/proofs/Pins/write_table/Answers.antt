@@ -14,6 +14,7 @@ write_row-requires c =
     let s = c.args.self in (
       omega (arith, s.listed.top.size),
       next_top s.listed l.i l.cut _ c.loop-i-test.true l.invariant.0 _ c.next_cut-cut.ensures,
+      omega (arith, c.requires.1, c.write_first.ensures.size, l.invariant.1.size),
     )
 
 pub loop-i-preserved : goal.loop-i-preserved

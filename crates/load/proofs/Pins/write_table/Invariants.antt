@@ -9,5 +9,4 @@ abbrev pub invariant-loop-i : goal.invariant-loop-i
 invariant-loop-i l =
     let s = l.self in
     (l.cut ≡ cut s.tops.now s.bottoms.now l.i 0)
-    × Written s.mark s.tops.now s.bottoms.now l.initial.loads.bytes l.loads.bytes
-    (λ (x y : ℕ). (x < l.i + 1) × (y < length s.bottoms.now + 1))
+    × Written s.mark s.tops.now s.bottoms.now l.initial.loads l.loads (λ (x y : ℕ). (x < l.i + 1) × (y < length s.bottoms.now + 1))

@@ -9,8 +9,8 @@ returns c =
     record {
       answer =
           c.meets.ensures
-          ∙ last_plane _ _ c.args.self.plan c.args.bound _ _ _ _ c.fill_under.ensures
+          ∙ last_plane _ _ c.args.self.plan c.args.bound _ _ _ _ c.fill.ensures
           (omega (arith, c.requires.lies.bottoms)) c.requires.lies.table.sizes.rows.1
           c.below.ensures (omega (arith, c.requires.lies.rows));
-      table = c.fill_under.ensures;
+      table = c.fill.ensures;
     }

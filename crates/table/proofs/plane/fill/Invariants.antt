@@ -7,4 +7,4 @@ use Rattle.table.proofs.plane.fill.Given as goal
 abbrev pub invariant-loop-i : goal.invariant-loop-i
 invariant-loop-i l =
     let f = l.filling in
-    Filled f.rules.now.words f.loads.now.bytes f.bound f.grid l.i 0 (l.i * f.grid.stride) l.initial.work l.work
+    Filled f.rules.now.words f.loads.now f.bound f.grid l.i 0 (l.i * f.grid.stride) l.initial.work l.work

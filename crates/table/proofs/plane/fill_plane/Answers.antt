@@ -9,8 +9,8 @@ row-w-requires c =
     let l = c.loop-x in
     let columns = c.columns-columns.result in
     let same = c.columns-columns.ensures in
-    let alone = letter_within f.rules.now.words f.loads.now.bytes f.bound a.i a.j 0 columns.top l.x (rw (same.0, same.1, same.2) at columns.tops) in
-    let paired = letter_within f.rules.now.words f.loads.now.bytes f.bound a.i a.j 2 columns.pair l.x (rw (same.0, same.1, same.2) at columns.pairs.0) in
+    let alone = letter_within f.rules.now.words f.loads.now f.bound a.i a.j 0 columns.top l.x (rw (same.0, same.1, same.2) at columns.tops) in
+    let paired = letter_within f.rules.now.words f.loads.now f.bound a.i a.j 2 columns.pair l.x (rw (same.0, same.1, same.2) at columns.pairs.0) in
     rw (same.0, same.1, same.2) (
       c.requires.0,
       omega arith,

@@ -6,4 +6,4 @@ use Rattle.table.proofs.plane.fill_plane.Given as goal
 abbrev pub invariant-loop-x : goal.invariant-loop-x
 invariant-loop-x l =
     let f = l.filling in
-    Rows f.rules.now.words f.loads.now.bytes f.bound f.grid l.i l.j l.at l.x l.initial.work l.work
+    Rows f.rules.now.words f.loads.now f.bound f.grid l.i l.j l.at l.x l.initial.work l.work

@@ -9,5 +9,5 @@ use Rattle.table.proofs.plane.fill_row.Given as goal
 abbrev pub invariant-loop-j : goal.invariant-loop-j
 invariant-loop-j l =
     let f = l.filling in
-    Filled f.rules.now.words f.loads.now.bytes f.bound f.grid l.i l.j (base_of f.grid l.i l.j) l.initial.work l.work
-    × (0 < l.j → l.j < f.grid.across → Paired f.rules.now.words f.loads.now.bytes f.bound f.grid l.i l.j l.diagonal)
+    Filled f.rules.now.words f.loads.now f.bound f.grid l.i l.j (base_of f.grid l.i l.j) l.initial.work l.work
+    × (0 < l.j → l.j < f.grid.across → Paired f.rules.now.words f.loads.now f.bound f.grid l.i l.j l.diagonal)

@@ -12,9 +12,9 @@ pub word-requires : goal.word-requires
 word-requires c =
     let s = c.args.columns in
     let f = s.filling in
-    let before : 0 < s.j → Holds c.args.x (cell f.rules.now.words f.loads.now.bytes f.bound s.i (s.j - 1)) c.if-columns-eq0.before =
+    let before : 0 < s.j → Holds c.args.x (cell f.rules.now.words f.loads.now f.bound s.i (s.j - 1)) c.if-columns-eq0.before =
     elim c.if-columns-eq0.branch [
       | then-columns-eq0 w ↦ λ p. absurd (omega (arith, w.if-columns-eq0.true))
-      | else-columns-eq0 w ↦ λ p y h. ap (λ (v : ℕ). bit_of v y) (w.before-is ∙ w.read_word-before.ensures) ∙ before_holds f.rules.now.words f.loads.now.bytes f.bound f.grid s.i s.j c.args.work.now c.requires.2 c.args.at c.args.x y p c.requires.1 h c.requires.3 c.requires.5
+      | else-columns-eq0 w ↦ λ p y h. ap (λ (v : ℕ). bit_of v y) (w.before-is ∙ w.read_word-before.ensures) ∙ before_holds f.rules.now.words f.loads.now f.bound f.grid s.i s.j c.args.work.now c.requires.2 c.args.at c.args.x y p c.requires.1 h c.requires.3 c.requires.5
     ] in
     (omega (arith, c.requires.0.rows.1), c.requires.6, before, c.requires.7)

@@ -2,12 +2,12 @@
 -- Assumes nothing.
 use Rattle.std.proofs.Common.{◌∙◌}
 use Rattle.letters.specs.Letters.{letter_number}
-use Rattle.walk.proofs.Choices.{walks_on, walk_more}
+use Rattle.letters.proofs.Walking.{walks_on, walk_more}
 use Rattle.walk.proofs.Walk.walk.Goals as goal
 
 pub loop-m-preserved : goal.loop-m-preserved
 loop-m-preserved c =
     let o = c.loop-m in (
       rw c.behind-m.ensures (walks_on _ _ (letter_number c.choose-letter.result) o.m c.loop-m-test.true o.invariant.0),
-      walk_more c.args.self _ o.m _ _ _ c.loop-m-test.true c.choose-letter.ensures c.behind-m.ensures c.put.ensures ∙ o.invariant.1,
+      walk_more _ c.args.self.p _ o.m _ _ _ c.loop-m-test.true c.choose-letter.ensures c.behind-m.ensures c.put.ensures ∙ o.invariant.1,
     )
