@@ -60,7 +60,7 @@ pub fn all_columns(length: usize) -> u64 {
 
 /// How the allowed sets of a channel are drawn.
 #[derive(Clone, Copy)]
-enum Sets {
+pub enum Sets {
     All,
     Most,
     Half,
@@ -70,12 +70,12 @@ enum Sets {
 }
 
 impl Sets {
-    const ANY: [Sets; 6] = [Sets::All, Sets::Most, Sets::Half, Sets::Stretch, Sets::Few, Sets::Mixed];
+    pub const ANY: [Sets; 6] = [Sets::All, Sets::Most, Sets::Half, Sets::Stretch, Sets::Few, Sets::Mixed];
 }
 
 /// How the distances of a channel are drawn.
 #[derive(Clone, Copy)]
-enum Ranges {
+pub enum Ranges {
     Free,
     Near,
     Exact,
@@ -83,12 +83,12 @@ enum Ranges {
 }
 
 impl Ranges {
-    const ANY: [Ranges; 6] = [Ranges::Free, Ranges::Free, Ranges::Near, Ranges::Exact, Ranges::Mixed, Ranges::Mixed];
+    pub const ANY: [Ranges; 6] = [Ranges::Free, Ranges::Free, Ranges::Near, Ranges::Exact, Ranges::Mixed, Ranges::Mixed];
 }
 
 /// Which nets a channel has: all of one kind, of all leaving kinds, or of all kinds.
 #[derive(Clone, Copy)]
-enum Nets {
+pub enum Nets {
     Plain,
     Left,
     Right,
@@ -97,7 +97,7 @@ enum Nets {
     Mixed,
 }
 
-fn nets(draw: &mut Draw) -> Nets {
+pub fn nets(draw: &mut Draw) -> Nets {
     match draw.between(0, 10) {
         0..=3 => Nets::Plain,
         4..=6 => Nets::Mixed,
@@ -268,7 +268,7 @@ fn over(draw: &mut Draw, count: usize) -> (Vec<(usize, usize)>, usize) {
     (pairs, nodes)
 }
 
-fn shuffle<T>(draw: &mut Draw, items: &mut [T]) {
+pub fn shuffle<T>(draw: &mut Draw, items: &mut [T]) {
     for k in (1..items.len()).rev() {
         items.swap(k, draw.between(0, k));
     }
@@ -305,7 +305,7 @@ pub fn modules(draw: &mut Draw, length: usize, count: usize, widest: usize) -> V
 }
 
 /// Any of these nets, often the first or the last of its kind, one whose low byte is 0 or 255, or one of few.
-fn net(draw: &mut Draw, nets: Nets) -> u16 {
+pub fn net(draw: &mut Draw, nets: Nets) -> u16 {
     let (first, last) = match nets {
         Nets::Plain => (1, 60_000),
         Nets::Left => (60_001, 62_000),
@@ -327,7 +327,7 @@ fn net(draw: &mut Draw, nets: Nets) -> u16 {
 }
 
 /// So many different columns in rising order.
-fn rising(draw: &mut Draw, length: usize, count: usize) -> Vec<u8> {
+pub fn rising(draw: &mut Draw, length: usize, count: usize) -> Vec<u8> {
     let mut columns: Vec<u8> = (1..=length as u8).collect();
     while columns.len() > count {
         columns.remove(draw.between(0, columns.len() - 1));
@@ -335,7 +335,7 @@ fn rising(draw: &mut Draw, length: usize, count: usize) -> Vec<u8> {
     columns
 }
 
-fn set(draw: &mut Draw, sets: Sets, length: usize, own: Option<usize>) -> u64 {
+pub fn set(draw: &mut Draw, sets: Sets, length: usize, own: Option<usize>) -> u64 {
     let drawn = match sets {
         Sets::All => u64::MAX,
         Sets::Most => draw.word() | draw.word() | draw.word(),
@@ -354,7 +354,7 @@ fn set(draw: &mut Draw, sets: Sets, length: usize, own: Option<usize>) -> u64 {
     (drawn | own.map_or(0, |own| 1 << (own - 1))) & all_columns(length)
 }
 
-fn range(draw: &mut Draw, ranges: Ranges, distance: Option<usize>) -> (u8, u8) {
+pub fn range(draw: &mut Draw, ranges: Ranges, distance: Option<usize>) -> (u8, u8) {
     let distance = distance.unwrap_or_else(|| draw.between(1, 6));
     match ranges {
         Ranges::Free => (1, 255),

@@ -16,6 +16,7 @@ mod modules;
 mod pairs;
 mod placements;
 mod reference;
+mod searches;
 mod sides;
 mod sound;
 mod threads;

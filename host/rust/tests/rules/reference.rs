@@ -421,7 +421,7 @@ impl Channel {
     }
 
     /// Every list of a side's columns that keeps its sets and its distances.
-    fn side_lists(&self, terminals: &[Terminal]) -> Vec<Vec<u8>> {
+    pub fn side_lists(&self, terminals: &[Terminal]) -> Vec<Vec<u8>> {
         let mut lists = vec![Vec::new()];
         for (place, terminal) in terminals.iter().enumerate() {
             let mut longer = Vec::new();
