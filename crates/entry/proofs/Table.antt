@@ -145,3 +145,28 @@ module _ (rules loads : List ℕ) (bound i j : ℕ) (some : i + j ≡ 0 → ⊥)
         Top rules loads bound i j top → Bottom rules loads bound i j bottom → Tops rules loads bound i j 2 pair
         → (x y : ℕ) → cell rules loads bound i j x y ≡ false
     no_letter tops bottoms pairs x y = sym (entry-cell rules loads bound i j x y) ∙ empty_entry _ _ _ x y tops bottoms pairs
+
+  -- nor where the planes before it hold nothing
+  no_steps : (by x : ℕ) → any_below (suc x) (λ (n : ℕ). bit_of by (x - n) && false) ≡ false
+  no_steps by x = any_below-none (suc x) (λ (n : ℕ). bit_of by (x - n) && false) (λ n l. and-false (bit_of by (x - n)))
+
+  from_none : (x y : ℕ) → entry rules loads bound i j (λ (n m : ℕ). false) (λ (n m : ℕ). false) (λ (n m : ℕ). false) x y ≡ false
+  unfolding entry
+  from_none x y =
+      let pairs : any_below (suc y)
+      (λ (m : ℕ). bit_of (range_at rules 1 j) (y - m) && any_below (suc x) (λ (n : ℕ). bit_of (range_at rules 0 i) (x - n) && false))
+      ≡ false =
+      any_below-none (suc y)
+      (λ (m : ℕ). bit_of (range_at rules 1 j) (y - m) && any_below (suc x) (λ (n : ℕ). bit_of (range_at rules 0 i) (x - n) && false))
+      (λ m l. rw (no_steps (range_at rules 0 i) x) (and-false (bit_of (range_at rules 1 j) (y - m)))) in
+      rw (no_start x y, pairs, no_steps (range_at rules 0 i) x, no_steps (range_at rules 1 j) y) (simp and-false refl)
+
+  pub none_before :
+      (x y : ℕ) → (0 < i → (n : ℕ) → n ≤ x → cell rules loads bound (i - 1) j n y ≡ false)
+      → (0 < j → (m : ℕ) → m ≤ y → cell rules loads bound i (j - 1) x m ≡ false)
+      → (0 < i → 0 < j → (n m : ℕ) → n ≤ x → m ≤ y → cell rules loads bound (i - 1) (j - 1) n m ≡ false)
+      → cell rules loads bound i j x y ≡ false
+  none_before x y above before diagonal =
+      sym (entry-cell rules loads bound i j x y)
+      ∙ entry_cong rules loads bound i j x y _ _ _ _ _ _ above before diagonal
+      ∙ from_none x y

@@ -1,2 +1,3 @@
+pub mod Empty
 pub mod Unions
 pub mod Planes

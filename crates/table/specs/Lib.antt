@@ -1,2 +1,3 @@
+pub mod Empty
 pub mod Planes
 pub mod United

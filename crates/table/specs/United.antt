@@ -13,3 +13,7 @@ module _ (rules loads : List ℕ) (bound : ℕ) (g : Grid) (i j : ℕ) where
   -- of the plane of one pin of each side less, where that of a pair is
   abbrev pub Paired : List ℕ → Type 0
   Paired words = leb (load_at loads i j 2) bound ≡ true → (x : ℕ) → x < g.rows → United rules loads bound i (j - 1) x (get_or words x 0)
+
+-- no word has anything
+abbrev pub Zeros : Grid → List ℕ → Type 0
+Zeros g words = (x : ℕ) → x < g.rows → get_or words x 0 ≡ 0

@@ -1,7 +1,8 @@
 // Filling the table, plane by plane.
-ghost use Rattle.std.specs.Prelude.{◌+◌, ◌-◌, ◌*◌, ◌≤◌, ◌<◌, ◌≡◌, true, length, leb};
+ghost use Rattle.std.specs.Prelude.{◌+◌, ◌-◌, ◌*◌, ◌≤◌, ◌<◌, ◌≡◌, true, false, length, leb};
 ghost use Rattle.table.specs.Planes.{Measures, Earlier, Filled, AsksTable, base_of};
-ghost use Rattle.table.specs.United.{Alone, Paired};
+ghost use Rattle.table.specs.United.{Alone, Paired, Zeros};
+ghost use Rattle.table.specs.Empty.{Empty, Told};
 ghost use Rattle.arrays.specs.Loads.{load_rows, load_at};
 ghost use Rattle.bits.specs.Bits.{bit_of};
 ghost use Rattle.entry.specs.Entry.{cell};
@@ -9,10 +10,11 @@ ghost use Rattle.entry.specs.Columns.{Holds, United};
 
 use crate::query::Plane;
 use arrays::loads_at;
+use bits::either;
 use cells::{read_word, write_word};
 use channel::Side;
 use entry::{Columns, Filling};
-use rows::unions;
+use rows::unite;
 
 // The cells and what fills them stay two parameters: of a type that held both, each function would have to say too that the cells are still
 // the caller's and that what fills them is the same.
@@ -30,18 +32,28 @@ fn used(filling: Filling, i: usize, j: usize) -> bool
     j + 1 < filling.grid.across && loads_at(filling.loads, i, j + 1).both <= filling.bound
 }
 
-// Those unions, by the steps of the i-th top pin.
-fn united(work: &[u16], filling: Filling, i: usize, j: usize) -> [u64; 64]
+// Puts in those unions, by the steps of the i-th top pin: none where that plane is empty, which `some` may rule out.
+fn unite_above(
+    work: &[u16],
+    filling: Filling,
+    i: usize,
+    j: usize,
+    some: bool,
+    unions: &mut [u64; 64],
+)
     requires { let f = filling in
         Measures f.grid × (i ≤ 64) × (j < f.grid.across) × (base_of f.grid i j + f.grid.size ≤ length work.now)
         × Earlier f.rules.now.words f.loads.now f.bound f.grid i j work.now
-        × (load_rows (i + 1) ≤ length f.loads.now) }
+        × (load_rows (i + 1) ≤ length f.loads.now)
+        × (0 < i → some ≡ false → Empty f.rules.now.words f.loads.now f.bound f.grid (i - 1) j) }
     ensures { let f = filling.entry in
-        Alone f.rules.now.words f.loads.now f.bound f.grid i j result
-        × (j + 1 < f.grid.across → Paired f.rules.now.words f.loads.now f.bound f.grid i (j + 1) result) }
+        Alone f.rules.now.words f.loads.now f.bound f.grid i j unions.new
+        × (j + 1 < f.grid.across → Paired f.rules.now.words f.loads.now f.bound f.grid i (j + 1) unions.new)
+        × (some ≡ false → Zeros f.grid unions.new) }
 {
-    if i == 0 || !used(filling, i, j) {
-        return [0; 64];
+    if i == 0 || !some || !used(filling, i, j) {
+        *unions = [0; 64];
+        return;
     }
     let plane = Plane {
         work,
@@ -50,7 +62,7 @@ fn united(work: &[u16], filling: Filling, i: usize, j: usize) -> [u64; 64]
         j,
     };
     let range = filling.rules.range(Side::Top, i);
-    unions(work, plane.start(), filling.grid.rows, range)
+    unite(work, plane.start(), filling.grid.rows, range, unions);
 }
 
 // The word of row x of the plane that starts at `at`.
@@ -73,7 +85,7 @@ fn row(work: &[u16], columns: Columns, at: usize, x: usize, above: u64, diagonal
     columns.word(x, above, before, diagonal)
 }
 
-// Fills the plane of (i, j).
+// Fills the plane of (i, j), and says whether anything stands in it.
 fn fill_plane(
     work: &mut [u16],
     filling: Filling,
@@ -81,13 +93,40 @@ fn fill_plane(
     j: usize,
     above: &[u64; 64],
     diagonal: &[u64; 64],
-)
+) -> bool
     requires { let f = filling in
         Measures f.grid × (i ≤ 64) × (j < f.grid.across) × (base_of f.grid i j + f.grid.size ≤ length work.old)
         × Earlier f.rules.now.words f.loads.now f.bound f.grid i j work.old
         × Alone f.rules.now.words f.loads.now f.bound f.grid i j above.now
         × (0 < j → Paired f.rules.now.words f.loads.now f.bound f.grid i j diagonal.now)
         × (load_rows (i + 1) ≤ length f.loads.now) }
+    ensures { let f = filling.entry in
+        Filled f.rules.now.words f.loads.now f.bound f.grid i (j + 1) (base_of f.grid i (j + 1)) work.old work.new
+        × (result ≡ false → Empty f.rules.now.words f.loads.now f.bound f.grid i j) }
+{
+    let plane = Plane {
+        work,
+        grid: filling.grid,
+        i,
+        j,
+    };
+    let at = plane.start();
+    let columns = filling.columns(i, j);
+    let mut all: u64 = 0;
+    for x in 0..filling.grid.rows {
+        let w = row(work, columns, at, x, above[x], diagonal[x]);
+        write_word(work, at + 4 * x, w);
+        all = either(w, all);
+    }
+    all != 0
+}
+
+// Writes the rows of an empty plane.
+fn clear_plane(work: &mut [u16], filling: Filling, i: usize, j: usize)
+    requires { let f = filling in
+        Measures f.grid × (i ≤ 64) × (j < f.grid.across) × (base_of f.grid i j + f.grid.size ≤ length work.old)
+        × Earlier f.rules.now.words f.loads.now f.bound f.grid i j work.old
+        × Empty f.rules.now.words f.loads.now f.bound f.grid i j }
     ensures { let f = filling.entry in
         Filled f.rules.now.words f.loads.now f.bound f.grid i (j + 1) (base_of f.grid i (j + 1)) work.old work.new }
 {
@@ -98,27 +137,39 @@ fn fill_plane(
         j,
     };
     let at = plane.start();
-    let columns = filling.columns(i, j);
     for x in 0..filling.grid.rows {
-        let w = row(work, columns, at, x, above[x], diagonal[x]);
-        write_word(work, at + 4 * x, w);
+        write_word(work, at + 4 * x, 0);
     }
 }
 
-// Fills the planes of i.
-fn fill_row(work: &mut [u16], filling: Filling, i: usize)
+// Fills the planes of i. Each flag says whether the plane of one top pin less may hold anything, and then whether that of i may: what is
+// made from empty planes alone is empty, but for the plane of no pin.
+fn fill_row(work: &mut [u16], filling: Filling, i: usize, flags: &mut [bool; 65])
     requires { let f = filling in
         Measures f.grid × (i ≤ 64) × ((i + 1) * f.grid.stride ≤ length work.old)
         × Earlier f.rules.now.words f.loads.now f.bound f.grid i 0 work.old
-        × (load_rows (i + 1) ≤ length f.loads.now) }
+        × (load_rows (i + 1) ≤ length f.loads.now)
+        × (0 < i → Told f.rules.now.words f.loads.now f.bound f.grid (i - 1) flags.old) }
     ensures { let f = filling.entry in
-        Filled f.rules.now.words f.loads.now f.bound f.grid (i + 1) 0 ((i + 1) * f.grid.stride) work.old work.new }
+        Filled f.rules.now.words f.loads.now f.bound f.grid (i + 1) 0 ((i + 1) * f.grid.stride) work.old work.new
+        × Told f.rules.now.words f.loads.now f.bound f.grid i flags.new }
 {
+    let mut above: [u64; 64] = [0; 64];
     let mut diagonal: [u64; 64] = [0; 64];
+    let mut corner = false;
+    let mut before = i == 0;
     for j in 0..filling.grid.across {
-        let above = united(work, filling, i, j);
-        fill_plane(work, filling, i, j, &above, &diagonal);
-        diagonal = above;
+        let some = flags[j];
+        if some || before || corner {
+            unite_above(work, filling, i, j, some, &mut above);
+            before = fill_plane(work, filling, i, j, &above, &diagonal);
+            diagonal = above;
+        } else {
+            // the next plane's unions for pairs are then all 0, as those at hand are
+            clear_plane(work, filling, i, j);
+        }
+        flags[j] = before;
+        corner = some;
     }
 }
 
@@ -128,8 +179,9 @@ pub fn fill(work: &mut [u16], filling: Filling, p: usize)
     ensures { let f = filling.entry in
         Filled f.rules.now.words f.loads.now f.bound f.grid (p + 1) 0 ((p + 1) * f.grid.stride) work.old work.new }
 {
+    let mut flags: [bool; 65] = [false; 65];
     // not `0..=p`, of which the last turn would have to be shown once more
     for i in 0..p + 1 {
-        fill_row(work, filling, i);
+        fill_row(work, filling, i, &mut flags);
     }
 }

@@ -7,7 +7,7 @@ pub loop-x-init : goal.loop-x-init
 loop-x-init c =
     let rows = c.args.rows.now in
     let f = λ (n y : ℕ). bit_of (get_or rows n 0) y in
-    (found_none f c.args.least, refl, made_none f c.args.least c.requires.1)
+    rw c.requires.2 (found_none f c.args.least, refl, made_none f c.args.least c.requires.1)
 
 pub loop-x-preserved : goal.loop-x-preserved
 loop-x-preserved c =

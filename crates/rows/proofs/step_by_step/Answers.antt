@@ -7,7 +7,8 @@ use Rattle.rows.proofs.step_by_step.Goals as goal
 pub loop-s-init : goal.loop-s-init
 loop-s-init c = λ x y h.
     let a = c.args in
-    steps_none (bit_of a.by) (λ (n y : ℕ). bit_of (get_or a.rows.now n 0) y) a.least x y (omega arith) c.requires.1
+    rw c.requires.2
+    (steps_none (bit_of a.by) (λ (n y : ℕ). bit_of (get_or a.rows.now n 0) y) a.least x y (omega arith) c.requires.1)
 
 pub returns : goal.returns
 returns c = λ x y h.

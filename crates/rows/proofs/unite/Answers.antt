@@ -3,7 +3,7 @@ use Rattle.channel.proofs.Below.{any_below_cong}
 use Rattle.bits.specs.Bits.{bit_of}
 use Rattle.rows.specs.Held.{held}
 use Rattle.rows.proofs.Back.{back-open, same_where}
-use Rattle.rows.proofs.unions.Goals as goal
+use Rattle.rows.proofs.unite.Goals as goal
 
 pub returns-then-both : goal.returns-then-both
 returns-then-both c = λ x y h.
