@@ -16,7 +16,7 @@ returns c =
     let all : (x : ℕ) → x < f.grid.rows → United f.rules.now.words f.loads.now f.bound a.i a.j x (get_or c.unite.new.unions x 0) =
     λ x h p.
     united_holds f.rules.now.words f.loads.now f.bound f.grid a.i a.j a.work.now c.requires.2 _ _ x _ p h c.start.ensures
-    c.range-range.ensures (λ y. c.unite.ensures x y h) c.requires.4 in
+    c.range-range.ensures (λ y. c.unite.ensures.0 x y h) c.requires.4 in
     let same : a.j + 1 - 1 ≡ a.j = omega arith in
     (λ e. all, λ l e. rw same all, λ e. absurd (true≢false (sym c.if-not-some.false ∙ e)))
 
