@@ -24,15 +24,15 @@ pub fn put_number(out: &mut Writer, n: usize, value: u64)
     }
 }
 
-// A terminal's record.
+// A terminal's record. Its numbers by `to_le_bytes`, which the compiler stores at once, where it stores `put_number`'s bytes one by one.
 pub fn put_record(out: &mut Writer, r: Record)
     requires { HasRoom out.old record_size }
     ensures { Writes out.old out.new (record_bytes (terminal_of r)) }
 {
-    put_number(out, 2, r.net as u64);
+    out.put_text(&r.net.to_le_bytes());
     out.put_byte(r.least);
     out.put_byte(r.greatest);
-    put_number(out, 8, r.allowed);
+    out.put_text(&r.allowed.to_le_bytes());
 }
 
 // Where a section stands.

@@ -96,11 +96,13 @@ pub fn check_modules(side: &[u8], columns: usize) -> Tests
         within: true,
         named: true,
     };
+    let mut count = 0usize;
     for m in Modules::new(side) {
         all = combine(all, check_module(m, columns));
+        count += 1;
     }
     Tests {
-        valid: all.valid & (Modules::new(side).count() <= 16),
+        valid: all.valid & (count <= 16),
         ..all
     }
 }

@@ -84,14 +84,20 @@ fn put_module(out: &mut Writer, m: Module, gap: Option<u8>) -> u8
     put_inner(out, pins, m.width, m.edges, pin.offset)
 }
 
-// The records of a side.
+// The records of a side, through a writer of this function's own: the compiler keeps its place in a register, where it would store that of
+// `out` anew behind each part of a record.
 pub fn put_modules(out: &mut Writer, side: &[u8])
     requires { AllWritable (modules_in side.now)
         × HasRoom out.old (record_size * pin_count (modules_in side.now)) }
     ensures { Writes out.old out.new (section_bytes (side_terminals (modules_in side.now))) }
 {
+    let mut records = Writer {
+        out: &mut *out.out,
+        end: out.end,
+    };
     let mut gap: Option<u8> = None;
     for m in Modules::new(side) {
-        gap = Some(put_module(out, m, gap));
+        gap = Some(put_module(&mut records, m, gap));
     }
+    out.end = records.end;
 }

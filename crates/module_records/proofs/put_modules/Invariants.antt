@@ -12,8 +12,8 @@ use Rattle.module_records.proofs.put_modules.Given as goal
 
 abbrev pub invariant-loop-m : goal.invariant-loop-m
 invariant-loop-m l =
-    Left l.initial.out.out.now l.initial.out.end (section_bytes (side_terminals (modules_in l.side))) l.out.out.now l.out.end
+    Left l.initial.records.out.now l.initial.records.end (section_bytes (side_terminals (modules_in l.side))) l.records.out.now l.records.end
     (section_bytes (terminals_behind (is_first l.gap) (gap_behind l.gap) (modules_left l.m-iterator)))
     × AllWritable (modules_left l.m-iterator)
     × (gap_behind l.gap ≤ 64)
-    × (l.out.out.ghost_name ≡ l.initial.out.out.ghost_name)
+    × (l.records.out.ghost_name ≡ l.initial.records.out.ghost_name)
