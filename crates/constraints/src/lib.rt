@@ -8,7 +8,7 @@ ghost use Rattle.constraints.specs.Constraints.{alone};
 ghost use Rattle.constraints.specs.Listed.{net_from, net_at, constrains, constraints_in, constraints_of};
 
 use arrayvec::ArrayVec;
-use ends::PinList;
+use ends::{PinList, list_nets};
 use kind::Kind;
 use list::ListedSheet;
 use nets::count_pins;
@@ -26,7 +26,12 @@ pub fn list_constraints(listed: ListedSheet, found: &mut ArrayVec<Constraint, 64
     ensures { found.new.items ≡ constraints_of (sheet_held listed.entry.sections) listed.entry.columns.now }
 {
     let mut nets = ArrayVec::new();
-    let pins = listed.pins(&mut nets);
+    list_nets(listed.sections.top, listed.sections.bottom, &mut nets);
+    let pins = PinList {
+        mark: listed.sections.mark,
+        nets: &nets,
+        columns: listed.columns,
+    };
     let p = listed.sections.shape.top;
     let top = PinList {
         mark: pins.mark,

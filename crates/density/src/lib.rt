@@ -9,7 +9,7 @@ ghost use Rattle.ends.specs.Pins.{pins_in};
 ghost use Rattle.density.specs.Counted.{net_spans, Added, Small, counted_at};
 
 use arrayvec::ArrayVec;
-use ends::PinList;
+use ends::{PinList, list_nets};
 use list::ListedSheet;
 use nets::Distinct;
 
@@ -18,7 +18,12 @@ pub fn list_density(listed: ListedSheet) -> u32
     ensures { result ≡ density (sheet_held listed.entry.sections) listed.entry.columns.now }
 {
     let mut nets = ArrayVec::new();
-    let pins = listed.pins(&mut nets);
+    list_nets(listed.sections.top, listed.sections.bottom, &mut nets);
+    let pins = PinList {
+        mark: listed.sections.mark,
+        nets: &nets,
+        columns: listed.columns,
+    };
     let mut counts: [u16; 256] = [0; 256];
     count_nets(pins, &mut counts);
     u32::from(greatest(&counts, listed.sections.shape.columns))

@@ -1,11 +1,14 @@
-// How far each net reaches in a column list.
+// The pins of a column list, and how far each net reaches in it.
 #![tactic(auto)]
 
-ghost use Rattle.std.specs.Prelude.{◌≡◌, ◌≤◌, length};
+ghost use Rattle.std.specs.Prelude.{◌≡◌, ◌≤◌, ◌++◌, length};
+ghost use Rattle.channel.specs.Sheet.{nets as nets_of};
+ghost use Rattle.format.specs.Parts.{terminals_in};
 
+use arrayvec::ArrayVec;
 use kind::Kind;
 use mark::Mark;
-use nets::is_straight;
+use nets::{Nets, is_straight};
 
 // The columns of a net's leftmost and rightmost pins; 0 and 255 where it leaves by that end.
 #[derive(Clone, Copy)]
@@ -55,5 +58,16 @@ impl<'a> PinList<'a> {
     {
         ends.left < ends.right
             || (ends.left == ends.right && is_straight(self.mark, net, self.nets))
+    }
+}
+
+// Lists the nets of the terminals of two sections, top then bottom.
+pub fn list_nets(top: &[u8], bottom: &[u8], nets: &mut ArrayVec<u16, 128>)
+    requires { length (terminals_in top.now ++ terminals_in bottom.now) ≤ 128 }
+    ensures { nets.new.items ≡ nets_of (terminals_in top.now ++ terminals_in bottom.now) }
+{
+    nets.clear();
+    for net in Nets::new(top, bottom) {
+        nets.push(net);
     }
 }

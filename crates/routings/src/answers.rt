@@ -24,7 +24,7 @@ impl Case<'_> {
         let routed = tracks::route(self.lent.sheet, self.lent.columns, self.room)?;
         Ok(Routing {
             tracks: routed.tracks,
-            spans: first_spans(&routed.spans),
+            spans: first_spans(routed.given()),
         })
     }
 

@@ -13,7 +13,8 @@ pub fn copy_spans(spans: &mut [Span], answer: &Result<Routed, TrackRefusal>)
     ensures { spans.new ≡ spans_given answer.now ++ drop (length (spans_given answer.now)) spans.old }
 {
     if let Ok(routed) = answer {
-        let nets = routed.spans.len();
-        spans[..nets].copy_from_slice(&routed.spans);
+        let given = routed.given();
+        let nets = given.len();
+        spans[..nets].copy_from_slice(given);
     }
 }

@@ -27,22 +27,45 @@ pub enum TrackRefusal {
 // The numbers of nets and tracks, or why there are none.
 pub type Tracked = Result<Counts, TrackRefusal>;
 
-// The spans of the nets in their order, and how many tracks they take.
-#[derive(Drop)]
+// The spans of the nets in their order, in front of an array with spans of 0 behind them; how many nets there are, and how many tracks they
+// take. It is an array, so that the answer can be copied.
+#[derive(Clone, Copy)]
 pub struct Routed {
-    pub spans: ArrayVec<Span, 128>,
+    pub spans: [Span; 128],
+    pub nets: usize,
     pub tracks: u16,
 }
 
 impl Routed {
-    ghost use Rattle.tracked.specs.Routed.{counts_of};
+    ghost use Rattle.tracked.specs.Routed.{counts_of, given_of, routed_with};
+
+    // The answer with these spans.
+    pub fn new(spans: &ArrayVec<Span, 128>, tracks: u16) -> Self
+        ensures { result ≡ routed_with spans.now.items tracks }
+    {
+        let nets = spans.len();
+        let mut all = [Span::default(); 128];
+        all[..nets].copy_from_slice(spans);
+        Routed {
+            spans: all,
+            nets,
+            tracks,
+        }
+    }
+
+    // The spans of the nets.
+    pub fn given(&self) -> &[Span]
+        ensures { result.now ≡ given_of self.now }
+    {
+        &self.spans[..self.nets.min(128)]
+    }
 
     // The numbers of nets and tracks.
     pub fn counts(&self) -> Counts
         ensures { result ≡ counts_of self.now }
     {
         Counts {
-            nets: self.spans.len(),
+            nets: self.nets,
             tracks: self.tracks,
         }
     }

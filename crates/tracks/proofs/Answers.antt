@@ -1,6 +1,6 @@
 -- Which answer about tracks is due.
 -- Assumes nothing.
-use Rattle.std.proofs.Common.{Result, Ok, Err, ℕ, ◌≤◌, ◌<◌, ◌≡◌, sym, ap, ◌∙◌, List, [], map, true, false, arith, length, lt-ltb, le-ltb}
+use Rattle.std.proofs.Common.{Result, Ok, Err, ℕ, ◌≤◌, ◌<◌, ◌≡◌, sym, ap, ◌∙◌, List, [], ◌++◌, map, drop, true, false, arith, length, lt-ltb, le-ltb}
 use Rattle.std.proofs.Math.ListN.{length-map}
 use Rattle.std.proofs.Math.Seq.{take-length}
 use Rattle.tracked.specs.declared.TrackRefusal.{TrackRefusal}
@@ -15,24 +15,26 @@ use Rattle.left_edge.proofs.Routes.{spans-length}
 use Rattle.order.specs.Keys.{key_in, keys_by_left, interval_at}
 use Rattle.tracked.specs.declared.TrackRefusal.TheVariants.{TwoNets, SpanBuffer}
 use Rattle.tracked.specs.declared.Routed.{Routed}
-use Rattle.tracked.specs.Routed.{counts_in, spans_given}
+use Rattle.tracked.specs.Routed.{counts_in, spans_given, array_in, no_spans}
 use Rattle.tracks.specs.Answer.{answer_for, Gives}
 
 module _ (ps : List Pin) (room : ℕ) (xs : List Span) (r : Result Routed TrackRefusal) where
-  pub gives_two_nets : two_nets ps ≡ true → (counts_in r ≡ Err TwoNets) × (spans_given r ≡ []) → Gives (answer_for ps room xs) xs r
+  pub gives_two_nets : two_nets ps ≡ true → (counts_in r ≡ Err TwoNets) × (spans_given r ≡ []) × (array_in r ≡ no_spans)
+      → Gives (answer_for ps room xs) xs r
   unfolding answer_for
   gives_two_nets two e = rw two e
 
   module _ (one : two_nets ps ≡ false) where
-    pub gives-short : room < length xs → (counts_in r ≡ Err SpanBuffer) × (spans_given r ≡ []) → Gives (answer_for ps room xs) xs r
+    pub gives-short : room < length xs → (counts_in r ≡ Err SpanBuffer) × (spans_given r ≡ []) × (array_in r ≡ no_spans)
+        → Gives (answer_for ps room xs) xs r
     unfolding answer_for
     gives-short h e = rw (one, lt-ltb room (length xs) h) e
 
     pub gives-tracks :
         length xs ≤ room → counts_in r ≡ Ok (record { nets = length xs; tracks = greatest xs }) → spans_given r ≡ xs
-        → Gives (answer_for ps room xs) xs r
+        → array_in r ≡ xs ++ drop (length xs) no_spans → Gives (answer_for ps room xs) xs r
     unfolding answer_for
-    gives-tracks h e spans = rw (one, le-ltb room (length xs) h) (e, rw (take-length xs) spans)
+    gives-tracks h e spans array = rw (one, le-ltb room (length xs) h) (e, rw (take-length xs) spans, rw (take-length xs) array)
 
 -- the keys of the nets in order, and the spans that they stand for
 module _ (m : Mark) (l : ℕ) (ps : List Pin) (ns keys : List ℕ) where

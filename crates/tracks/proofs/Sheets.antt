@@ -18,12 +18,12 @@ use Rattle.list.proofs.Laws.{Given}
 use Rattle.tracked.specs.declared.TrackRefusal.{TrackRefusal}
 use Rattle.tracked.specs.declared.TrackRefusal.TheVariants.{Listed}
 use Rattle.tracked.specs.declared.Routed.{Routed}
-use Rattle.tracked.specs.Routed.{counts_in, spans_given}
+use Rattle.tracked.specs.Routed.{counts_in, spans_given, array_in, no_spans}
 use Rattle.tracks.specs.Answer.{tracked_of, Gives, GivesFor}
 
 pub list_refused :
     (b cs : List ℕ) (room : ℕ) (why : ListRefusal) → listed_of b cs ≡ Err why → (r : Result Routed TrackRefusal)
-    → (counts_in r ≡ Err (Listed why)) × (spans_given r ≡ [])
+    → (counts_in r ≡ Err (Listed why)) × (spans_given r ≡ []) × (array_in r ≡ no_spans)
     → Gives (tracked_of b cs room) (spans_of (sheet_of b) cs) r
 unfolding tracked_of
 list_refused b cs room why e r answer = rw e answer

@@ -16,7 +16,7 @@ use Rattle.tracked.specs.declared.Routed.{Routed}
 use Rattle.sheet.specs.declared.Layout.{Layout}
 use Rattle.refusals.specs.declared.ListRefusal.{ListRefusal}
 use Rattle.tracked.specs.Numbers.{count_of}
-use Rattle.tracked.specs.Routed.{counts_in, spans_given}
+use Rattle.tracked.specs.Routed.{counts_in, spans_given, array_in, no_spans}
 
 -- "18 .. when a column has pins of two nets; then 9 when the array holds fewer records than there are nets"; else the numbers of nets and
 -- of tracks
@@ -44,9 +44,10 @@ spans_after b cs spans =
     let answer : Result Counts TrackRefusal = tracked_of b cs (length spans) in
     spans_with answer (spans_of (sheet_of b) cs) ++ drop (count_of answer) spans
 
--- this answer, with its spans
+-- this answer, with its spans, in front of an array that has none
 abbrev pub Gives : Result Counts TrackRefusal → List Span → Result Routed TrackRefusal → Type 0
-Gives answer xs r = (counts_in r ≡ answer) × (spans_given r ≡ spans_with answer xs)
+Gives answer xs r =
+    (counts_in r ≡ answer) × (spans_given r ≡ spans_with answer xs) × (array_in r ≡ spans_with answer xs ++ drop (count_of answer) no_spans)
 
 -- what is due under a mark of pins and their nets on a channel of l columns, with room for so many records
 abbrev pub GivesIn : Mark → ℕ → List Pin → List ℕ → ℕ → Result Routed TrackRefusal → Type 0

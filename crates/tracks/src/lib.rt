@@ -14,7 +14,7 @@ ghost use Rattle.tracks.specs.Answer.{Gives, GivesIn, GivesFor, tracked_of};
 ghost use Rattle.tracked.specs.Routed.{routed_of};
 
 use arrayvec::ArrayVec;
-use ends::PinList;
+use ends::{PinList, list_nets};
 use left_edge::Span;
 use list::ListedSheet;
 use method::route_keys;
@@ -30,7 +30,7 @@ pub fn route(s: &[u8], columns: &[u8], room: usize) -> Result<Routed, TrackRefus
     let listed = list::assignment(s, columns)?;
     let mut spans = ArrayVec::new();
     let tracks = route_columns(listed, room, &mut spans)?;
-    Ok(Routed { spans, tracks })
+    Ok(Routed::new(&spans, tracks))
 }
 
 // 18 and 9 of an assignment, beside the sections of its sheet; else the spans, and how many tracks they take. The spans are lent room, as
@@ -41,10 +41,15 @@ fn route_columns(
     spans: &mut ArrayVec<Span, 128>,
 ) -> Result<u16, TrackRefusal>
     requires { Columns listed.columns.now listed.sections.shape.columns }
-    ensures { GivesFor (sheet_held listed.entry.sections) listed.entry.columns.now room (routed_of spans.new result) }
+    ensures { GivesFor (sheet_held listed.entry.sections) listed.entry.columns.now room (routed_of spans.new.items result) }
 {
     let mut nets = ArrayVec::new();
-    let pins = listed.pins(&mut nets);
+    list_nets(listed.sections.top, listed.sections.bottom, &mut nets);
+    let pins = PinList {
+        mark: listed.sections.mark,
+        nets: &nets,
+        columns: listed.columns,
+    };
     route_nets(pins, listed.sections.shape.columns as u8, room, spans)
 }
 
@@ -56,7 +61,7 @@ fn route_nets(
     spans: &mut ArrayVec<Span, 128>,
 ) -> Result<u16, TrackRefusal>
     requires { Columns pins.columns.now l × (length pins.nets.now ≤ 128) }
-    ensures { GivesIn pins.entry.mark l (pins_in pins.entry) pins.entry.nets.now room (routed_of spans.new result) }
+    ensures { GivesIn pins.entry.mark l (pins_in pins.entry) pins.entry.nets.now room (routed_of spans.new.items result) }
 {
     if two_nets(pins) {
         return Err(TrackRefusal::TwoNets);

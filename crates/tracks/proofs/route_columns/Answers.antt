@@ -1,7 +1,6 @@
 -- `tracks::route_columns` meets its contract: the nets of the pins are those of the sheet's terminals.
 -- Assumes nothing.
-use Rattle.std.proofs.Common.{ℕ, List, ◌++◌, sym, ap, subst}
-use Rattle.std.specs.Borrow.{Bor}
+use Rattle.std.proofs.Common.{List, ◌++◌, ◌∙◌, sym, subst}
 use Rattle.channel.specs.Density.{Pin}
 use Rattle.channel.specs.Sheet.{nets}
 use Rattle.format.specs.Parts.{terminals_in}
@@ -15,8 +14,6 @@ returns c =
     let a = c.args in
     let s = a.listed.sections in
     let terminals = terminals_in s.top.now ++ terminals_in s.bottom.now in
-    let r = routed_of c.route_nets.new.spans c.route_nets.result in
-    let pins = c.pins-pins.ensures in
-    let columns = ap (λ (b : Bor (List ℕ)). b.now) pins.columns in
+    let r = routed_of c.route_nets.new.spans.items c.route_nets.result in
     subst (λ (ps : List Pin). GivesIn s.mark s.shape.columns ps (nets terminals) a.room r) (sym (pins-nets terminals a.listed.columns.now))
-    (rw (pins.mark, columns, pins.nets) at c.route_nets.ensures)
+    (rw (c.deref.ensures.0 ∙ c.list_nets.ensures) at c.route_nets.ensures)
