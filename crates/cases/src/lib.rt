@@ -1,5 +1,5 @@
-// Cases as text. A line has commands with semicolons between them, and a line that starts with # is a remark. A command is a word, then
-// numbers, then a name behind a colon.
+// Cases as text, in bytes of any kind. A command is a word, which counts by its first letter, then numbers, then a name behind a colon. A
+// semicolon or a line's end closes it; one that starts with # is a remark, which only a line's end closes.
 #![tactic(auto)]
 
 use fixtures::{Page, Plan, SheetA};
@@ -8,49 +8,76 @@ use std::io;
 use terminal::Record;
 use trailer::{Part, Trailer};
 
-// A command's word, its first six numbers, of which those that are missing are 0, and its name. The word stays text: each program has
-// commands of its own beside those that build a sheet.
+// A command's word by its first letter, its first six numbers, of which those that are missing are 0, and its name. The word stays a
+// letter: each program has commands of its own beside those that build a sheet.
 #[derive(Clone, Copy)]
 pub struct Command<'a> {
-    pub word: &'a str,
+    pub word: u8,
     pub numbers: [u64; 6],
-    pub name: &'a str,
+    pub name: &'a [u8],
 }
 
-// Whether a line is a remark.
-fn is_remark(line: &str) -> bool {
-    line.starts_with('#')
+// The number that a run of digits says. What does not fit is lost.
+fn number(digits: &[u8]) -> u64 {
+    digits.iter().fold(0u64, |n, digit| {
+        n.wrapping_mul(10)
+            .wrapping_add(digit.wrapping_sub(b'0') as u64)
+    })
 }
 
-// The command of a text, which has no semicolon.
-fn read(text: &str) -> Command<'_> {
-    let (front, name) = text.split_once(": ").unwrap_or((text, ""));
-    let mut words = front.split_whitespace();
-    let word = words.next().unwrap_or("");
+// The first six runs of digits, wherever they stand.
+fn numbers(text: &[u8]) -> [u64; 6] {
+    let runs = text
+        .split(|b| !b.is_ascii_digit())
+        .filter(|run| !run.is_empty());
     let mut numbers = [0; 6];
-    for (n, digits) in numbers.iter_mut().zip(words) {
-        *n = digits.parse().unwrap_or(0);
+    for (n, digits) in numbers.iter_mut().zip(runs) {
+        *n = number(digits);
     }
-    Command {
+    numbers
+}
+
+// The command that a text starts with, and what is left of the text behind it.
+fn read(text: &[u8]) -> (Command<'_>, &[u8]) {
+    let word = text.first().copied().unwrap_or(0);
+    let end = text
+        .iter()
+        .position(|b| *b == b'\n' || (*b == b';' && word != b'#'))
+        .unwrap_or(text.len());
+    let (command, rest) = text.split_at(end);
+    let colon = command
+        .iter()
+        .position(|b| *b == b':')
+        .unwrap_or(command.len());
+    let (front, named) = command.split_at(colon);
+    // a semicolon has a space behind it, as a colon has
+    let past = if rest.starts_with(b";") { 2 } else { 1 };
+    let command = Command {
         word,
-        numbers,
-        name,
-    }
+        numbers: numbers(front),
+        name: named.get(2..).unwrap_or(&[]),
+    };
+    (command, rest.get(past..).unwrap_or(&[]))
 }
 
 // Builds a page by a text's commands, one after the other, and hands each on with the page's sheet, until that fails.
 pub fn each<F: FnMut(Command<'_>, &[u8]) -> io::Result<()>>(
-    text: &str,
+    text: &[u8],
     mut ask: F,
 ) -> io::Result<()>
     requires { F.IsAlwaysCallable ask }
 {
     let mut page = Page::new();
-    for line in text.lines().filter(|line| !is_remark(line)) {
-        for command in line.split("; ").map(read) {
-            build(&mut page, command);
-            ask(command, page.sheet())?;
+    let mut left = text;
+    // each command takes a byte at the least
+    for _ in 0..text.len() {
+        if left.is_empty() {
+            break;
         }
+        let (command, rest) = read(left);
+        build(&mut page, command);
+        ask(command, page.sheet())?;
+        left = rest;
     }
     Ok(())
 }
@@ -75,7 +102,7 @@ fn build(page: &mut Page, command: Command) {
     // each command has arguments of its own, so a `match` is plainer than a table of closures
     match command.word {
         // sheet A: columns, set, greatest distance, 1 for the bottom section first, 1 for the mark CQ
-        "A" => page.put_sheet_a(SheetA {
+        b'A' => page.put_sheet_a(SheetA {
             columns: low(a),
             set: b,
             greatest: low(c),
@@ -83,11 +110,11 @@ fn build(page: &mut Page, command: Command) {
             mark,
         }),
         // a usual sheet: columns, p, q, 1 for the bottom section first, 1 for the mark CQ
-        "sheet" => page.put_usual(plan),
+        b's' => page.put_usual(plan),
         // the end of a sheet, by the same numbers
-        "end" => page.close(plan),
+        b'e' => page.close(plan),
         // a record: its number from 0, and its fields
-        "record" => page.put_record(
+        b'r' => page.put_record(
             at,
             Record {
                 net: (b % 65536) as u16,
@@ -97,7 +124,7 @@ fn build(page: &mut Page, command: Command) {
             },
         ),
         // a trailer with the mark CP: where it starts, both offsets and counts, columns
-        "trailer" => page.put_trailer(
+        b't' => page.put_trailer(
             at,
             Trailer {
                 top: Part {
@@ -112,12 +139,13 @@ fn build(page: &mut Page, command: Command) {
             },
             Mark::Cp,
         ),
-        // two bytes: where they start, and their values
-        "bytes" => {
-            page.put(at, &[low(b), low(c)]);
+        // two bytes: where they start, and their values; the second is the page's first where the numbers of places wrap
+        b'b' => {
+            page.put(at, &[low(b)]);
+            page.put(at.wrapping_add(1), &[low(c)]);
         }
         // the sheet's length
-        "length" => page.cut(at),
+        b'l' => page.cut(at),
         _ => {}
     }
 }

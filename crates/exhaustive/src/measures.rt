@@ -1,12 +1,12 @@
 // The library's measurements on one sheet against the program's own reading of the rules. Most of the measured lists
 // need not be assignments.
 use crate::tally::Tally;
-use crate::trials::Case;
+use crate::trials::{Case, number_of_sheet};
 use drawn::{bits, draw, single};
 use enumeration::{List, Pins, ROOM, Sheet, count_lists, list_of};
 use fixtures::Lent;
 use printing::{Columns, Measurement};
-use refusals::ListRefusal;
+use refusals::{ListRefusal, amount_of, number_of};
 use std::io::{self, Write};
 
 // The density of a list, or why it has none.
@@ -138,23 +138,31 @@ fn all_allowed(pins: Pins) -> bool {
     pins.all(|(terminal, column)| terminal.allowed & single(*column) != 0)
 }
 
+// A refusal's number and amount by the rules, and 0 where there is none.
+fn numbers(answer: Answer) -> (u8, i16) {
+    match answer {
+        Ok(_) => (0, 0),
+        Err(ListRefusal::Sheet(why)) => (number_of_sheet(why), 0),
+        Err(ListRefusal::Count) => (12, 0),
+        Err(ListRefusal::Allowed) => (13, 0),
+        Err(ListRefusal::Distance(amount)) => (14, amount),
+    }
+}
+
 // Measures a list; the tally has one wrong where the answer is.
 fn measure_one<W: Write>(out: &mut W, kind: Kind, case: &Case) -> io::Result<Tally> {
     let trial = Trial::new(kind, case);
     let lent = trial.lend();
     let wanted = trial.expected();
     let given = measure::measure(lent.sheet, lent.columns).map(|density| density as usize);
-    let wrong = wanted != given;
+    let (number, amount) = numbers(wanted);
+    let wrong = wanted != given || (number, amount) != (number_of(given), amount_of(given));
     if wrong && case.shown {
         let columns = Columns(lent.columns);
         write!(out, "sheet {} measured at{columns}: ", case.n)?;
         write!(out, "expected {}, ", Measurement(wanted))?;
         writeln!(out, "measure {}", Measurement(given))?;
     }
-    let amount = match wanted {
-        Err(ListRefusal::Distance(amount)) => amount,
-        _ => 0,
-    };
     Ok(Tally {
         assignments: wanted.is_ok() as u64,
         straight: (wanted.is_ok() && trial.pins().have_straight_wire()) as u64,

@@ -9,12 +9,12 @@ use enumeration::{Best, Sheet};
 use fixtures::{Page, but_last};
 use mark::Mark;
 use printing::Found;
-use refusals::Refusal;
+use refusals::{Refusal, number_of};
 use searched::SearchRefusal;
 use std::io::{self, Write};
 
 // A sheet with its number and its bytes, the best of its lists, and whether a call that does not do what it must is shown.
-#[derive(Drop)]
+#[derive(Clone, Copy)]
 pub struct Case {
     pub n: u64,
     pub sheet: Sheet,
@@ -55,6 +55,25 @@ fn nothing(why: SearchRefusal) -> Expected<'static> {
         answer: Err(why),
         written: &[],
         cleared: 0,
+    }
+}
+
+// The number of a sheet's refusal by the rules; the sheets that are tried earn no other.
+pub fn number_of_sheet(why: Refusal) -> u8 {
+    match why {
+        Refusal::Short => 1,
+        _ => 2,
+    }
+}
+
+// A refusal's number by the rules, and 0 where there is none.
+fn number(answer: Answer) -> u8 {
+    match answer {
+        Ok(_) => 0,
+        Err(SearchRefusal::Sheet(why)) => number_of_sheet(why),
+        Err(SearchRefusal::Columns) => 9,
+        Err(SearchRefusal::Cells) => 10,
+        Err(SearchRefusal::NoAssignment) => 11,
     }
 }
 
@@ -102,9 +121,10 @@ impl Case {
         buffers::mark(cells);
         let given = search::search(lent.sheet, columns, cells).map(usize::from);
         let good = given == expected.answer
+            && number_of(given) == number(expected.answer)
             && buffers::columns_left(columns, expected.written)
             && buffers::work_left(cells, expected.cleared);
-        // both outcomes; where they are alike, a buffer is not left as it must be
+        // both outcomes; where they are alike, a number is wrong or a buffer is not left as it must be
         if !good && self.shown {
             let wanted = Found(expected.answer, expected.written);
             writeln!(shared.out, "sheet {}, exhaustive: {wanted}", self.n)?;

@@ -2,6 +2,7 @@
 use crate::trials::Case;
 use chained::ChainRefusal;
 use enumeration::{Chain, Circle};
+use refusals::{HasAmount, Reason, amount_of, number_of};
 use std::fmt;
 
 pub type Answer = Result<Chain, ChainRefusal>;
@@ -24,6 +25,20 @@ impl Case<'_> {
             bound: chain.bound as usize,
         })
     }
+}
+
+// A refusal's number and amount by the rules, and 0 where there is none. Those of a list are the measurement's, which `exhaustive` tries.
+fn numbers(answer: Answer) -> (u8, i16) {
+    match answer {
+        Ok(_) => (0, 0),
+        Err(ChainRefusal::Circle(_)) => (19, 0),
+        Err(ChainRefusal::Listed(why)) => (why.number(), why.amount()),
+    }
+}
+
+// Whether an answer is the one that is wanted, in its number and its amount too.
+pub fn agree(wanted: Answer, given: Answer) -> bool {
+    wanted == given && numbers(wanted) == (number_of(given), amount_of(given))
 }
 
 // An answer as it is shown.

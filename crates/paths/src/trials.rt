@@ -1,6 +1,6 @@
 // One sheet: the library's answer to each of its cases against the program's own reading of the rule.
 use crate::LISTS;
-use crate::answers::Shown;
+use crate::answers::{Shown, agree};
 use crate::sheets::{plan_of, sheet_of};
 use crate::tally::Tally;
 use drawn::{Choice, Trial};
@@ -37,7 +37,7 @@ impl<W: Write> Shared<'_, W> {
     fn try_case(&mut self, case: &Case) -> io::Result<()> {
         let wanted = case.expected();
         let given = case.given();
-        let wrong = wanted != given;
+        let wrong = !agree(wanted, given);
         if wrong && self.tally.wrong < 5 {
             write!(self.out, "{case}: expected {}; ", Shown(wanted))?;
             writeln!(self.out, "chain {}", Shown(given))?;

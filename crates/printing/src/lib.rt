@@ -59,10 +59,11 @@ pub fn yes_or_no(yes: bool) -> &'static str {
 }
 
 // The name of a sheet, and the refusal that it earns; `sound` is for one that earns none.
-pub fn verdict<W: Write>(out: &mut W, name: &str, sound: &str, s: &[u8]) -> io::Result<()> {
+pub fn verdict<W: Write>(out: &mut W, name: &[u8], sound: &str, s: &[u8]) -> io::Result<()> {
+    out.write_all(name)?;
     match soundness::check(s) {
-        Ok(()) => writeln!(out, "{name}: {sound}"),
-        Err(why) => writeln!(out, "{name}: refused {}", why.number()),
+        Ok(()) => writeln!(out, ": {sound}"),
+        Err(why) => writeln!(out, ": refused {}", why.number()),
     }
 }
 

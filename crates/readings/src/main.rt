@@ -17,7 +17,7 @@ fn read<W: Write>(out: &mut W, s: &[u8], steps: usize) -> io::Result<()> {
 }
 
 // A sheet: whether it is sound, its steps, and terminal number 1, from 0, by the call with plain parameters.
-fn walk<W: Write>(out: &mut W, name: &str, s: &[u8], steps: usize) -> io::Result<()> {
+fn walk<W: Write>(out: &mut W, name: &[u8], s: &[u8], steps: usize) -> io::Result<()> {
     printing::verdict(out, name, "sound", s)?;
     read(out, s, steps)?;
     let found = reader::read_at(s, 1).map(|(visit, _)| visit);
@@ -29,7 +29,7 @@ fn main(rt: HostRuntime) -> io::Result<()> {
     // two terminals a side
     walk(
         &mut out,
-        "sheet A",
+        b"sheet A",
         b"\x01\x00\x00\x00\x07\x00\x00\x00\x00\x00\x00\x00\
           \x02\x00\x01\xff\x07\x00\x00\x00\x00\x00\x00\x00\
           \x02\x00\x00\x00\x07\x00\x00\x00\x00\x00\x00\x00\
@@ -40,7 +40,7 @@ fn main(rt: HostRuntime) -> io::Result<()> {
     // the file has B 1, T 1, T 2; the walk goes T 1, T 2, B 1
     walk(
         &mut out,
-        "bottom section first, with the mark CQ",
+        b"bottom section first, with the mark CQ",
         b"\x09\x00\x00\x00\x01\x00\x00\x00\x00\x00\x00\x80\
           \x07\x00\x00\x00\x06\x00\x00\x00\x00\x00\x00\x00\
           \x2c\x01\x02\x04\x00\x01\x00\x00\x00\x00\x00\x00\
@@ -50,7 +50,7 @@ fn main(rt: HostRuntime) -> io::Result<()> {
     // one bottom terminal, with the empty set
     walk(
         &mut out,
-        "no top terminals",
+        b"no top terminals",
         b"\x05\x00\x00\x00\x00\x00\x00\x00\x00\x00\x00\x00\
           \x00\x00\x00\x00\x00\x00\x01\x00\x01\x00CP",
         3,
@@ -58,7 +58,7 @@ fn main(rt: HostRuntime) -> io::Result<()> {
     // only the last terminal breaks a rule
     walk(
         &mut out,
-        "sheet A with column 4 in its last set",
+        b"sheet A with column 4 in its last set",
         b"\x01\x00\x00\x00\x07\x00\x00\x00\x00\x00\x00\x00\
           \x02\x00\x01\xff\x07\x00\x00\x00\x00\x00\x00\x00\
           \x02\x00\x00\x00\x07\x00\x00\x00\x00\x00\x00\x00\

@@ -1,8 +1,8 @@
 // What is to be answered to a case and what the library answers, in one form.
 
 use crate::trials::Case;
-use arrayvec::ArrayVec;
 use enumeration::{NoTracks, ROOM, Routing, Span, Spans};
+use refusals::{HasAmount, Reason, amount_of, number_of};
 use std::fmt;
 use tracked::TrackRefusal;
 
@@ -22,8 +22,10 @@ impl Case<'_> {
     // What the library answers.
     pub fn given(&self) -> Answer {
         let routed = tracks::route(self.lent.sheet, self.lent.columns, self.room)?;
+        let counts = routed.counts();
         Ok(Routing {
-            tracks: routed.tracks,
+            nets: counts.nets,
+            tracks: counts.tracks,
             spans: first_spans(routed.given()),
         })
     }
@@ -39,16 +41,31 @@ impl Case<'_> {
 
 // The spans that the library gives, as far as there is room for them, in the type of `enumeration`, which asks the library nothing.
 fn first_spans(all: &[left_edge::Span]) -> Spans {
-    let mut spans = ArrayVec::new();
-    for span in &all[..all.len().min(ROOM)] {
-        spans.push(Span {
+    let mut spans = [Span::default(); ROOM];
+    for (place, span) in spans.iter_mut().zip(all) {
+        *place = Span {
             net: span.net,
             left: span.left,
             right: span.right,
             track: span.track,
-        });
+        };
     }
     spans
+}
+
+// A refusal's number and amount by the rules, and 0 where there is none. Those of a list are the measurement's, which `exhaustive` tries.
+fn numbers(answer: Answer) -> (u8, i16) {
+    match answer {
+        Ok(_) => (0, 0),
+        Err(TrackRefusal::SpanBuffer) => (9, 0),
+        Err(TrackRefusal::TwoNets) => (18, 0),
+        Err(TrackRefusal::Listed(why)) => (why.number(), why.amount()),
+    }
+}
+
+// Whether an answer is the one that is wanted, in its number and its amount too.
+pub fn agree(wanted: Answer, given: Answer) -> bool {
+    wanted == given && numbers(wanted) == (number_of(given), amount_of(given))
 }
 
 // An answer as it is shown.
@@ -65,9 +82,8 @@ impl fmt::Display for Shown<'_> {
 }
 
 fn show_routing<W: fmt::Write>(f: &mut fmt::Formatter<W>, routing: &Routing) -> fmt::Result {
-    let spans = routing.spans.as_slice();
-    write!(f, "nets {}, tracks {}", spans.len(), routing.tracks)?;
-    for span in spans {
+    write!(f, "nets {}, tracks {}", routing.nets, routing.tracks)?;
+    for span in routing.spans() {
         write!(
             f,
             ", net {} from {} to {} ",

@@ -56,7 +56,7 @@ impl Tally {
     fn add_routing(&mut self, routing: &Routing) {
         count(&mut self.routed, true);
         self.most = self.most.max(routing.tracks);
-        for span in routing.spans.as_slice() {
+        for span in routing.spans() {
             count(&mut self.spans, true);
             count(&mut self.trackless, span.track == 0);
             count(&mut self.straight, is_straight(*span));

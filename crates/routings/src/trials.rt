@@ -1,6 +1,6 @@
 // One sheet: the library's answer to each of its cases against the program's own reading of the rule.
 use crate::LISTS;
-use crate::answers::Shown;
+use crate::answers::{Shown, agree};
 use crate::tally::Tally;
 use drawn::{Choice, Trial};
 use enumeration::Pins;
@@ -51,7 +51,7 @@ impl<W: Write> Shared<'_, W> {
     fn try_case(&mut self, case: &Case) -> io::Result<()> {
         let wanted = case.expected();
         let given = case.given();
-        let wrong = wanted != given || !case.is_dense(&wanted);
+        let wrong = !agree(wanted, given) || !case.is_dense(&wanted);
         if wrong && self.tally.wrong < 5 {
             write!(self.out, "{case}: expected {}; ", Shown(&wanted))?;
             writeln!(self.out, "route {}", Shown(&given))?;

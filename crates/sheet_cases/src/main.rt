@@ -13,38 +13,45 @@ fn ask<W: Write>(out: &mut W, s: &[u8], command: Command) -> io::Result<()> {
     let [a, b, c, d, _, _] = command.numbers;
     // each command has arguments of its own, so a `match` is plainer than a table of closures
     match command.word {
-        "heading" => writeln!(out, "{}", command.name),
+        // a heading
+        b'h' => {
+            out.write_all(command.name)?;
+            writeln!(out)
+        }
         // whether the sheet is sound
-        "check" => printing::verdict(out, command.name, "sound", s),
-        "dimensions" => show::shape(out, s),
-        // the two sections
-        "parts" => {
+        b'c' => printing::verdict(out, command.name, "sound", s),
+        // its dimensions
+        b'd' => show::shape(out, s),
+        // its parts, the two sections
+        b'p' => {
             show::section(out, s, Side::Top)?;
             show::section(out, s, Side::Bottom)
         }
         // the records of each side from one place up to another
-        "from" => {
+        b'f' => {
             show::records(out, s, Side::Top, a, b)?;
             show::records(out, s, Side::Bottom, a, b)
         }
         // a walk of so many steps
-        "walk" => show::walk(out, s, a),
+        b'w' => show::walk(out, s, a),
         // the next step after so many terminals
-        "next" => show::step_after(out, s, a),
+        b'n' => show::step_after(out, s, a),
         // the record at a place inside a section, which is all of the bytes
-        "inside" => show::record_in(out, s, a),
+        b'i' => show::record_in(out, s, a),
         // the gap between two columns: the one before, this one, the range
-        "gap" => columns::range(out, low(a), low(b), low(c), low(d)),
+        b'g' => columns::range(out, low(a), low(b), low(c), low(d)),
         // which columns are members of a set
-        "member" => columns::allow_each(out, a),
+        b'm' => columns::allow_each(out, a),
         // whether a set goes over a length
-        "over" => columns::name_each(out, a),
+        b'o' => columns::name_each(out, a),
         _ => Ok(()),
     }
 }
 
 fn main(rt: HostRuntime) -> io::Result<()> {
-    let text = io::read_to_string(rt.alloc(), rt.reader())?;
+    // what is longer is cut off
+    let mut text = [0; 65536];
+    let n = input::read_full(&mut rt.reader(), &mut text)?;
     let mut out = io::writer(&rt);
-    cases::each(&text, |command, s| ask(&mut out, s, command))
+    cases::each(&text[..n], |command, s| ask(&mut out, s, command))
 }
