@@ -1,3 +1,4 @@
 pub mod Answer
 pub mod Listed
 pub mod Returned
+pub mod Pins
