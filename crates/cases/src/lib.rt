@@ -61,7 +61,14 @@ fn read(text: &[u8]) -> (Command<'_>, &[u8]) {
 }
 
 // Builds a page by a text's commands, one after the other, and hands each on with the page's sheet, until that fails.
-pub fn each<F: FnMut(Command<'_>, &[u8]) -> io::Result<()>>(
+pub fn each<F: FnMut(Command<'_>, &[u8]) -> io::Result<()>>(text: &str, ask: F) -> io::Result<()>
+    requires { F.IsAlwaysCallable ask }
+{
+    each_in_bytes(text.as_bytes(), ask)
+}
+
+// The same of a text in bytes of any kind.
+pub fn each_in_bytes<F: FnMut(Command<'_>, &[u8]) -> io::Result<()>>(
     text: &[u8],
     mut ask: F,
 ) -> io::Result<()>
@@ -147,5 +154,30 @@ fn build(page: &mut Page, command: Command) {
         // the sheet's length
         b'l' => page.cut(at),
         _ => {}
+    }
+}
+
+#[cfg(test)]
+mod tests {
+    use super::*;
+    use std::io::Write;
+
+    // Each command's word and name, and how many bytes the sheet has behind it.
+    #[test]
+    fn each_command_of_a_text(rt: HostRuntime) -> io::Result<()> {
+        let mut out = Vec::new(rt.alloc());
+        each(
+            "A 3 7 255; check: a sheet\n# no sheet\nlength 5",
+            |command, s| {
+                out.write_all(&[command.word])?;
+                out.write_all(command.name)?;
+                writeln!(out, " {}", s.len())
+            },
+        )?;
+        assert_eq!(rt;
+            out.as_slice(),
+            b"A 60\nca sheet 60\n# 60\nl 5\n".as_slice()
+        );
+        Ok(())
     }
 }

@@ -60,7 +60,7 @@ fn measure<W: Write>(out: &mut W, s: &[u8], command: Command) -> io::Result<()> 
 fn ask<W: Write>(out: &mut W, s: &[u8], command: Command, tally: &mut Tally) -> io::Result<()> {
     // each command has arguments of its own, so a `match` is plainer than a table of closures
     match command.word {
-        b'c' => printing::verdict(out, command.name, "accepted", s)?,
+        b'c' => printing::verdict_in_bytes(out, command.name, "accepted", s)?,
         b'm' => measure(out, s, command)?,
         b'f' => {
             let left = find(out, s, command)?;
@@ -74,7 +74,7 @@ fn ask<W: Write>(out: &mut W, s: &[u8], command: Command, tally: &mut Tally) -> 
 
 fn run<W: Write>(out: &mut W, text: &[u8]) -> io::Result<()> {
     let mut tally = Tally::default();
-    cases::each(text, |command, s| ask(out, s, command, &mut tally))?;
+    cases::each_in_bytes(text, |command, s| ask(out, s, command, &mut tally))?;
     writeln!(
         out,
         "{} searches, {} buffers differ from the rules",

@@ -59,7 +59,17 @@ pub fn yes_or_no(yes: bool) -> &'static str {
 }
 
 // The name of a sheet, and the refusal that it earns; `sound` is for one that earns none.
-pub fn verdict<W: Write>(out: &mut W, name: &[u8], sound: &str, s: &[u8]) -> io::Result<()> {
+pub fn verdict<W: Write>(out: &mut W, name: &str, sound: &str, s: &[u8]) -> io::Result<()> {
+    verdict_in_bytes(out, name.as_bytes(), sound, s)
+}
+
+// The same where the name is bytes of any kind.
+pub fn verdict_in_bytes<W: Write>(
+    out: &mut W,
+    name: &[u8],
+    sound: &str,
+    s: &[u8],
+) -> io::Result<()> {
     out.write_all(name)?;
     match soundness::check(s) {
         Ok(()) => writeln!(out, ": {sound}"),
@@ -106,5 +116,25 @@ impl<T: fmt::Display + Copy> fmt::Display for Found<'_, T> {
         } else {
             write!(f, ", columns{}", Columns(self.1))
         }
+    }
+}
+
+#[cfg(test)]
+mod tests {
+    use super::*;
+
+    // A sheet of one bottom terminal, which is sound, and one of no bytes.
+    #[test]
+    fn verdict_says_name_and_refusal(rt: HostRuntime) -> io::Result<()> {
+        let one = b"\x05\x00\x00\x00\x00\x00\x00\x00\x00\x00\x00\x00\
+            \x00\x00\x00\x00\x00\x00\x01\x00\x01\x00CP";
+        let mut out = Vec::new(rt.alloc());
+        verdict(&mut out, "one terminal", "sound", one)?;
+        verdict(&mut out, "none", "sound", b"")?;
+        assert_eq!(rt;
+            out.as_slice(),
+            b"one terminal: sound\nnone: refused 1\n".as_slice()
+        );
+        Ok(())
     }
 }

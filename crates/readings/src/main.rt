@@ -18,7 +18,7 @@ fn read<W: Write>(out: &mut W, s: &[u8], steps: usize) -> io::Result<()> {
 
 // A sheet: whether it is sound, its steps, and terminal number 1, from 0, by the call with plain parameters.
 fn walk<W: Write>(out: &mut W, name: &[u8], s: &[u8], steps: usize) -> io::Result<()> {
-    printing::verdict(out, name, "sound", s)?;
+    printing::verdict_in_bytes(out, name, "sound", s)?;
     read(out, s, steps)?;
     let found = reader::read_at(s, 1).map(|(visit, _)| visit);
     writeln!(out, "  number 1:  {}", Found(found))

@@ -19,7 +19,7 @@ fn ask<W: Write>(out: &mut W, s: &[u8], command: Command) -> io::Result<()> {
             writeln!(out)
         }
         // whether the sheet is sound
-        b'c' => printing::verdict(out, command.name, "sound", s),
+        b'c' => printing::verdict_in_bytes(out, command.name, "sound", s),
         // its dimensions
         b'd' => show::shape(out, s),
         // its parts, the two sections
@@ -53,5 +53,5 @@ fn main(rt: HostRuntime) -> io::Result<()> {
     let mut text = [0; 65536];
     let n = input::read_full(&mut rt.reader(), &mut text)?;
     let mut out = io::writer(&rt);
-    cases::each(&text[..n], |command, s| ask(&mut out, s, command))
+    cases::each_in_bytes(&text[..n], |command, s| ask(&mut out, s, command))
 }
